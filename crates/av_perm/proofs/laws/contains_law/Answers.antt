@@ -1,0 +1,5 @@
+use Rattle.av_perm.proofs.Occurrences.{contains_from, contains_to}
+use Rattle.av_perm.proofs.laws.contains_law.Goals as goal
+
+pub returns : goal.returns
+returns c σ τ = (contains_from σ τ, contains_to σ τ)

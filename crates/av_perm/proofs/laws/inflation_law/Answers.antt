@@ -1,0 +1,5 @@
+use Rattle.av_perm.proofs.Inflations.{inflation_law}
+use Rattle.av_perm.proofs.laws.inflation_law.Goals as goal
+
+pub returns : goal.returns
+returns c = inflation_law

@@ -1,0 +1,5 @@
+use Rattle.av_perm.proofs.Classes.{maximal_holds}
+use Rattle.av_perm.proofs.laws.maximal_law.Goals as goal
+
+pub returns : goal.returns
+returns c required = maximal_holds required

@@ -1,0 +1,5 @@
+use Rattle.av_perm.proofs.Parts.{parts_law}
+use Rattle.av_perm.proofs.laws.parts_law.Goals as goal
+
+pub returns : goal.returns
+returns c = parts_law

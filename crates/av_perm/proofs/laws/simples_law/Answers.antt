@@ -1,0 +1,5 @@
+use Rattle.av_perm.proofs.SimpleWords.{simples_list, simples_ascending}
+use Rattle.av_perm.proofs.laws.simples_law.Goals as goal
+
+pub returns : goal.returns
+returns c basis m = record { listed = simples_list basis m; ascending = simples_ascending basis m }
