@@ -1,0 +1,146 @@
+-- The minimal and the maximal words of a list, gathered from its end.
+use Rattle.std.proofs.Common.{◌≡◌, ℕ, suc, ◌-◌, ◌<◌, ◌≤◌, inl, inr, Bool, true, false, not, ◌||◌, nat_le, List, [], ◌∷◌, length, drop, filter, Some, Result, Ok, Err, refl, sym, ◌∙◌, ap, subst, arith, true≢false, drop-cons, le-leb}
+use Rattle.std.specs.List.{list_all, slice_get}
+use Rattle.std.specs.Result.{OnOk, is_ok}
+use Rattle.std.specs.Ordering.{match_ordering}
+use Rattle.std.specs.declared.cmp.Ordering.{Ordering}
+use Rattle.std.specs.declared.cmp.Ordering.TheVariants.{Less, Equal, Greater}
+use Rattle.std.specs.BTreeSet.{insert_key}
+use Rattle.std.proofs.Math.Bool.{or-true}
+use Rattle.std.proofs.lemmas.Bool.{cases_lt, cases_Bool, lt-leb}
+use Rattle.std.proofs.lemmas.List.Elements.{All-get_or}
+use Rattle.std.proofs.lemmas.Option.{slice_get_within, get_or_from_slice_get}
+use Rattle.av_perm.specs.Members.{In}
+use Rattle.av_perm.specs.Lists.{same}
+use Rattle.av_perm.specs.Word.{shortlex, is_perm, ArePerms}
+use Rattle.av_perm.specs.WordOrder.{word_same}
+use Rattle.av_perm.specs.Contain.{contains}
+use Rattle.av_perm.specs.Relations.{IsWord}
+use Rattle.av_perm.specs.Class.{insert_by, insert_word, in_shortlex}
+use Rattle.av_perm.proofs.Containment.{contains_equal}
+use Rattle.av_perm.proofs.Membership.{In_at, at_In}
+use Rattle.av_perm.proofs.Occurrences.{contains_from}
+use Rattle.av_perm.proofs.PermWords.{perm_word}
+use Rattle.av_perm.proofs.Tests.{same_refl}
+
+-- the word contains no other different word of the list
+abbrev pub is_minimal_of : List (List ℕ) → List ℕ → Bool
+is_minimal_of ws w = list_all (λ v. same v w || not (contains w v)) ws
+
+-- the word contains no shorter word of the list
+abbrev pub has_no_shorter : List (List ℕ) → List ℕ → Bool
+has_no_shorter ws w = list_all (λ v. nat_le (length w) (length v) || not (contains w v)) ws
+
+-- a word that is at least as long and contained is the word itself
+shorter_test : (w v : List ℕ) → IsWord w → IsWord v → (nat_le (length w) (length v) || not (contains w v)) ≡ (same v w || not (contains w v))
+shorter_test w v g h = elim (cases_lt (length v) (length w)) [
+  | inl lt ↦
+      let other : same v w ≡ false = elim (cases_Bool (same v w)) [ inl e ↦ absurd (let n = ap length (word_same v w e) in omega arith) | inr e ↦ e ] in
+      rw (lt-leb (length w) (length v) lt, other) refl
+  | inr le ↦ rw (le-leb (length w) (length v) le) (sym (by (contains w v) refl le))
+]
+  where
+    by : (t : Bool) → contains w v ≡ t → length w ≤ length v → (same v w || not t) ≡ true
+    by false e le = or-true (same v w)
+    by true e le = rw (contains_equal w v g.numbers h.numbers le (contains_from w v e), same_refl v) refl
+
+-- a word that is at most as long and contains the word is the word itself
+longer_test : (w v : List ℕ) → IsWord w → IsWord v → (nat_le (length v) (length w) || not (contains v w)) ≡ (same v w || not (contains v w))
+longer_test w v g h = elim (cases_lt (length w) (length v)) [
+  | inl lt ↦
+      let other : same v w ≡ false = elim (cases_Bool (same v w)) [ inl e ↦ absurd (let n = ap length (word_same v w e) in omega arith) | inr e ↦ e ] in
+      rw (lt-leb (length v) (length w) lt, other) refl
+  | inr le ↦ rw (le-leb (length v) (length w) le) (sym (by (contains v w) refl le))
+]
+  where
+    by : (t : Bool) → contains v w ≡ t → length v ≤ length w → (same v w || not t) ≡ true
+    by false e le = or-true (same v w)
+    by true e le = rw (contains_equal v w h.numbers g.numbers le (contains_from v w e), same_refl w) refl
+
+-- each of the words that a list holds is a word
+perm_in : (ws : List (List ℕ)) (w : List ℕ) → ArePerms ws → In w ws → IsWord w
+perm_in ws w g i =
+    let s = at_In ws w [] i in
+    subst IsWord s.2 (perm_word _ (All-get_or (λ v. is_perm v ≡ true) ws s.0 [] s.1 g))
+
+-- tests that agree at each element agree on the list
+all_same : (f g : List ℕ → Bool) (ws : List (List ℕ)) → ((v : List ℕ) → In v ws → f v ≡ g v) → list_all f ws ≡ list_all g ws
+all_same f g [] h = refl
+all_same f g (w ∷ ws) h = rw (h w (inl refl), all_same f g ws (λ v i. h v (inr i))) refl
+
+-- the two tests agree on a list of words
+minimal_shorter : (ws : List (List ℕ)) (w : List ℕ) → ArePerms ws → In w ws → has_no_shorter ws w ≡ is_minimal_of ws w
+minimal_shorter ws w g i = all_same _ _ ws (λ v j. shorter_test w v (perm_in ws w g i) (perm_in ws v g j))
+
+-- a set in shortlex order takes a word as the list does
+insert_same : (w : List ℕ) (ws : List (List ℕ)) → insert_key shortlex ws w ≡ insert_word w ws
+insert_same w [] = refl
+insert_same w (v ∷ ws) = by (shortlex w v) (insert_same w ws)
+  where
+    by : (o : Ordering) → insert_key shortlex ws w ≡ insert_word w ws
+        → match_ordering o (w ∷ v ∷ ws) (v ∷ ws) (v ∷ insert_key shortlex ws w) ≡ insert_by o w v ws (insert_word w ws)
+    by Less e = refl
+    by Equal e = refl
+    by Greater e = ap (λ (zs : List (List ℕ)). v ∷ zs) e
+
+-- the words from one place earlier on
+earlier : (ws : List (List ℕ)) (i : ℕ) (w : List ℕ) → 0 < i → slice_get ws (i - 1) ≡ Some w → drop (i - 1) ws ≡ w ∷ drop i ws
+earlier ws i w h e =
+    let lt : i - 1 < length ws = slice_get_within ws (i - 1) w e in
+    let n : suc (i - 1) ≡ i = omega arith in
+    drop-cons ws (i - 1) [] lt ∙ rw (get_or_from_slice_get ws (i - 1) w [] e, n) refl
+
+-- the word there is in the list
+there : (ws : List (List ℕ)) (i : ℕ) (w : List ℕ) → slice_get ws i ≡ Some w → In w ws
+there ws i w e = subst (λ v. In v ws) (get_or_from_slice_get ws i w [] e) (In_at ws i [] (slice_get_within ws i w e))
+
+-- one more word that passes a test is kept
+kept_more : (test : List ℕ → Bool) (ws old new : List (List ℕ)) (i : ℕ) (w : List ℕ) → 0 < i → slice_get ws (i - 1) ≡ Some w → test w ≡ true
+    → old ≡ in_shortlex (filter test (drop i ws)) → new ≡ insert_key shortlex old w → new ≡ in_shortlex (filter test (drop (i - 1) ws))
+kept_more test ws old new i w h e passes k n = n ∙ insert_same w old ∙ ap (insert_word w) k ∙ rw (earlier ws i w h e, passes) refl
+
+-- a word that fails it is not
+kept_same : (test : List ℕ → Bool) (ws old : List (List ℕ)) (i : ℕ) (w : List ℕ) → 0 < i → slice_get ws (i - 1) ≡ Some w → test w ≡ false
+    → old ≡ in_shortlex (filter test (drop i ws)) → old ≡ in_shortlex (filter test (drop (i - 1) ws))
+kept_same test ws old i w h e fails k = k ∙ rw (earlier ws i w h e, fails) refl
+
+-- one more minimal word is kept
+pub kept_one : (ws old new : List (List ℕ)) (i : ℕ) (w : List ℕ) → ArePerms ws → 0 < i → slice_get ws (i - 1) ≡ Some w → has_no_shorter ws w ≡ true
+    → old ≡ in_shortlex (filter (is_minimal_of ws) (drop i ws)) → new ≡ insert_key shortlex old w → new ≡ in_shortlex (filter (is_minimal_of ws) (drop (i - 1) ws))
+kept_one ws old new i w g h e alone k n =
+    kept_more (is_minimal_of ws) ws old new i w h e (sym (minimal_shorter ws w g (there ws (i - 1) w e)) ∙ alone) k n
+
+-- none is kept
+pub kept_none : (ws old : List (List ℕ)) (i : ℕ) (w : List ℕ) → ArePerms ws → 0 < i → slice_get ws (i - 1) ≡ Some w → has_no_shorter ws w ≡ false
+    → old ≡ in_shortlex (filter (is_minimal_of ws) (drop i ws)) → old ≡ in_shortlex (filter (is_minimal_of ws) (drop (i - 1) ws))
+kept_none ws old i w g h e not_alone k =
+    kept_same (is_minimal_of ws) ws old i w h e (sym (minimal_shorter ws w g (there ws (i - 1) w e)) ∙ not_alone) k
+
+-- no other different word of the list contains the word
+abbrev pub is_maximal_of : List (List ℕ) → List ℕ → Bool
+is_maximal_of ws w = list_all (λ v. same v w || not (contains v w)) ws
+
+-- no longer word of the list contains the word
+abbrev pub has_no_longer : List (List ℕ) → List ℕ → Bool
+has_no_longer ws w = list_all (λ v. nat_le (length v) (length w) || not (contains v w)) ws
+
+-- the two tests agree on a list of words
+maximal_longer : (ws : List (List ℕ)) (w : List ℕ) → ArePerms ws → In w ws → has_no_longer ws w ≡ is_maximal_of ws w
+maximal_longer ws w g i = all_same _ _ ws (λ v j. longer_test w v (perm_in ws w g i) (perm_in ws v g j))
+
+-- one more maximal word is kept
+pub kept_maximal : (ws old new : List (List ℕ)) (i : ℕ) (w : List ℕ) → ArePerms ws → 0 < i → slice_get ws (i - 1) ≡ Some w → has_no_longer ws w ≡ true
+    → old ≡ in_shortlex (filter (is_maximal_of ws) (drop i ws)) → new ≡ insert_key shortlex old w → new ≡ in_shortlex (filter (is_maximal_of ws) (drop (i - 1) ws))
+kept_maximal ws old new i w g h e alone k n =
+    kept_more (is_maximal_of ws) ws old new i w h e (sym (maximal_longer ws w g (there ws (i - 1) w e)) ∙ alone) k n
+
+-- none is kept
+pub kept_no_maximal : (ws old : List (List ℕ)) (i : ℕ) (w : List ℕ) → ArePerms ws → 0 < i → slice_get ws (i - 1) ≡ Some w → has_no_longer ws w ≡ false
+    → old ≡ in_shortlex (filter (is_maximal_of ws) (drop i ws)) → old ≡ in_shortlex (filter (is_maximal_of ws) (drop (i - 1) ws))
+kept_no_maximal ws old i w g h e not_alone k =
+    kept_same (is_maximal_of ws) ws old i w h e (sym (maximal_longer ws w g (there ws (i - 1) w e)) ∙ not_alone) k
+
+-- what holds at `Ok`
+pub at_ok : {T E : Type 0} (P : Type 0) (r : Result T E) → is_ok r ≡ true → OnOk r P → P
+at_ok P (Ok x) e h = h
+at_ok P (Err y) e h = absurd (true≢false (sym e))

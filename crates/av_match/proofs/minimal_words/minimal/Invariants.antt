@@ -1,0 +1,11 @@
+-- The words kept are the minimal ones among the words gone through; the list holds those handed out so far.
+use Rattle.std.proofs.Common.{◌≡◌, drop, filter}
+use Rattle.av_perm.specs.Class.{in_shortlex}
+use Rattle.av_match.proofs.Gathered.{is_minimal_of}
+use Rattle.av_match.proofs.minimal_words.minimal.Given as goal
+
+abbrev pub invariant-loop-i : goal.invariant-loop-i
+invariant-loop-i l = l.kept.keys ≡ in_shortlex (filter (is_minimal_of l.words) (drop l.i l.words))
+
+abbrev pub invariant-loop-word : goal.invariant-loop-word
+invariant-loop-word l = l.minimal ≡ l.yielded

@@ -1,0 +1,67 @@
+-- The first occurrence goes on with the loop's place, or else with a later one.
+use Rattle.std.proofs.Common.{◌≡◌, ℕ, ◌+◌, ◌<◌, ◌≤◌, List, [], ◌∷◌, ◌++◌, length, arith, sym, ◌∙◌, ap, subst, Some, None, rules, refl}
+use Rattle.av_match.specs.Search.{IsBegun, completed, places_from}
+use Rattle.av_match.proofs.Begun.{in_window}
+use Rattle.av_match.proofs.Completed.{completed_whole, completed_short, found_here, found_later, found_not, popped}
+use Rattle.av_match.proofs.search.+extend.Goals as goal
+use Rattle.av_match.proofs.search.+extend.Goals.{then-window-x+then-x-window+else-extend, else-window-x, else-window-x-via-then-window-x+else-x-window, else-window-x-via-else-window-x}
+
+pub returns-then-rest-eq0-clause-found : goal.returns-then-rest-eq0-clause-found
+returns-then-rest-eq0-clause-found t c =
+    sym (completed_whole c.args.word.now c.args.pattern.now c.args.chosen.now.items (places_from c.args.word.now c.args.from) (omega (arith, c.len.ensures.value)) c.requires.begun)
+
+pub extend-requires : goal.extend-requires
+extend-requires t c =
+    let w = c.args.word.now in
+    let p = c.args.pattern.now in
+    let cs = c.args.chosen.now.items in
+    let place = c.loop-place.place in
+    let pushed : c.push.new.self.items ≡ cs ++ place ∷ [] = c.push.ensures.items ∙ ap (λ (ds : List ℕ). ds ++ place ∷ []) c.loop-place.invariant.same in
+    let long = ap length c.loop-place.invariant.same in
+    let window = in_window w p cs c.as_slice.result.now c.fitting-window.result.low c.fitting-window.result.high place c.as_slice.ensures.value c.fitting-window.ensures (omega arith) (omega arith) in
+    let begun : IsBegun w p c.push.new.self.items = subst (λ (ds : List ℕ). IsBegun w p ds) (sym pushed) (window.1 (c.if-window-x.true, c.if-x-window.true)) in
+    let short : length c.push.new.self.items ≤ length p = omega (arith, c.push.ensures.len, c.len.ensures.value) in
+    search (rules, begun, short)
+
+pub returns-then-extend-clause-found : goal.returns-then-extend-clause-found
+returns-then-extend-clause-found t c =
+    let w = c.args.word.now in
+    let p = c.args.pattern.now in
+    let cs = c.args.chosen.now.items in
+    let place = c.loop-place.place in
+    let pushed : c.push.new.self.items ≡ cs ++ place ∷ [] = c.push.ensures.items ∙ ap (λ (ds : List ℕ). ds ++ place ∷ []) c.loop-place.invariant.same in
+    found_here w p cs place c.extend.new.chosen.items (omega arith) (omega (arith, c.len.ensures.value))
+    (subst (λ (ds : List ℕ). Some c.extend.new.chosen.items ≡ completed w p ds (places_from w (place + 1))) pushed c.if-extend.ensures.found)
+    ∙ c.loop-place.invariant.none
+
+pub loop-place-preserved : goal.loop-place-preserved
+loop-place-preserved t c =
+    let w = c.args.word.now in
+    let p = c.args.pattern.now in
+    let cs = c.args.chosen.now.items in
+    let place = c.loop-place.place in
+    let last : place ≤ length w = omega arith in
+    let short : length cs < length p = omega (arith, c.len.ensures.value) in
+    let window = in_window w p cs c.as_slice.result.now c.fitting-window.result.low c.fitting-window.result.high place c.as_slice.ensures.value c.fitting-window.ensures (omega arith) last in
+    elim c.if-window-x.branch [
+      | then-window-x+then-x-window+else-extend u ↦
+          let pushed : u.push.new.self.items ≡ cs ++ place ∷ [] = u.push.ensures.items ∙ ap (λ (ds : List ℕ). ds ++ place ∷ []) c.loop-place.invariant.same in
+          record {
+            same = ap (λ v. v.items) u.chosen-is ∙ popped cs u.extend.new.chosen.items u.pop.new.self.items place (u.if-extend.ensures.kept refl ∙ pushed) u.pop.ensures.rest;
+            none = found_later w p cs place last short
+                (subst (λ (ds : List ℕ). None ≡ completed w p ds (places_from w (place + 1))) pushed u.if-extend.ensures.found)
+                ∙ c.loop-place.invariant.none;
+          }
+      | else-window-x u ↦ record {
+        same = ap (λ v. v.items) u.chosen-is ∙ c.loop-place.invariant.same;
+        none = found_not w p cs place c.requires.begun (omega arith) last short (λ begun. elim u.else-window-x.branch [
+          | else-window-x-via-then-window-x+else-x-window v ↦ absurd (omega (arith, (window.0 begun).1, v.if-x-window.false))
+          | else-window-x-via-else-window-x v ↦ absurd (omega (arith, (window.0 begun).0, v.if-window-x.false))
+        ]) ∙ c.loop-place.invariant.none;
+      }
+    ]
+
+pub returns-clause-found : goal.returns-clause-found
+returns-clause-found t c =
+    sym (completed_short c.args.word.now c.args.pattern.now c.args.chosen.now.items c.loop-place.place (omega (arith, c.len.ensures.value)))
+    ∙ c.loop-place.invariant.none

@@ -1,0 +1,3 @@
+-- Places, and what the search for an occurrence keeps.
+pub mod Places
+pub mod Search

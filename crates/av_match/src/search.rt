@@ -1,0 +1,93 @@
+// The search for an occurrence, by backtracking.
+ghost use Rattle.std.specs.Prelude.{◌≡◌, ℕ, ◌+◌, ◌<◌, ◌≤◌, ◌↔◌, List, [], ◌∷◌, ◌++◌, length, true, false, IsTrue};
+ghost use Rattle.av_perm.specs.Word.{is_perm, entry};
+ghost use Rattle.av_perm.specs.Contain.{contains, first_occurrence};
+ghost use Rattle.av_match.specs.Search.{completed, places_from, IsBegun, some_if};
+
+use crate::places::Places;
+use arrayvec::ArrayVec;
+use av_perm::Perm;
+
+// The entries above `low` and below `high`.
+#[derive(Clone, Copy)]
+struct Window {
+    low: u8,
+    high: u8,
+}
+
+// The entries that may stand for the pattern's next one, after the places chosen.
+fn fitting(word: &[u8], pattern: &[u8], chosen: &[u8]) -> Window
+    requires word { IsTrue (is_perm word.now) }
+    requires pattern { IsTrue (is_perm pattern.now) }
+    requires begun { IsBegun word.now pattern.now chosen.now }
+    requires room { length chosen.now < length pattern.now }
+    ensures { (place : ℕ) → 1 ≤ place → place ≤ length word.now → IsBegun word.now pattern.now (chosen.now ++ place ∷ []) ↔ (result.low < entry word.now place) × (entry word.now place < result.high) }
+{
+    let next = pattern[chosen.len()];
+    let mut low: u8 = 0;
+    let mut high = u8::MAX;
+    for i in 0..chosen.len() {
+        let x = word[chosen[i] as usize - 1];
+        if pattern[i] < next {
+            low = low.max(x);
+        } else {
+            high = high.min(x);
+        }
+    }
+    Window { low, high }
+}
+
+// Extends the places chosen to the first whole occurrence that goes on with places from `from` on. Where there is none,
+// the places chosen are left.
+fn extend(word: &[u8], pattern: &[u8], chosen: &mut ArrayVec<u8, 160>, from: usize) -> bool
+    requires word { IsTrue (is_perm word.now) }
+    requires pattern { IsTrue (is_perm pattern.now) }
+    requires begun { IsBegun word.now pattern.now chosen.old.items }
+    requires short { length chosen.old.items ≤ length pattern.now }
+    requires fits { length pattern.now ≤ length word.now }
+    requires first { 1 ≤ from }
+    requires last { from ≤ length word.now + 1 }
+    ensures found { some_if result chosen.new.items ≡ completed word.now pattern.now chosen.old.items (places_from word.now from) }
+    ensures kept { result ≡ false → chosen.new.items ≡ chosen.old.items }
+{
+    let rest = pattern.len() - chosen.len();
+    if rest == 0 {
+        return true;
+    }
+    let window = fitting(word, pattern, chosen.as_slice());
+    // Places are left for the rest of the pattern.
+    for place in from..word.len() + 2 - rest {
+        let x = word[place - 1];
+        if window.low < x && x < window.high {
+            chosen.push(place as u8);
+            if extend(word, pattern, chosen, place + 1) {
+                return true;
+            }
+            chosen.pop();
+        }
+    }
+    false
+}
+
+/// The lexicographically first occurrence of the pattern in the word: its places, from left to right. None exactly
+/// where the word avoids the pattern.
+pub fn find(word: &Perm, pattern: &Perm) -> Option<Places>
+    ensures { result ≡ first_occurrence word.now pattern.now }
+{
+    if pattern.len() > word.len() {
+        return None;
+    }
+    let mut chosen = ArrayVec::new();
+    if extend(word.as_slice(), pattern.as_slice(), &mut chosen, 1) {
+        Some(Places::of(chosen))
+    } else {
+        None
+    }
+}
+
+/// Whether the word contains the pattern.
+pub fn contains(word: &Perm, pattern: &Perm) -> bool
+    ensures { result ≡ contains word.now pattern.now }
+{
+    find(word, pattern).is_some()
+}
