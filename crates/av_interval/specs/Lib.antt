@@ -1,0 +1,3 @@
+-- The definitions of cuts and of maximal intervals.
+pub mod Cuts
+pub mod Intervals
