@@ -1,0 +1,8 @@
+pub mod SpanNumbers
+pub mod TiledWords
+pub mod SimpleRoots
+pub mod Halves
+pub mod Decompositions
+pub mod DecompositionTrees
+pub mod FormedTrees
+mod Worked
