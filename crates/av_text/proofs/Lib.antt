@@ -1,0 +1,7 @@
+pub mod Digits
+pub mod Cuts
+pub mod Shorts
+pub mod BasisWords
+pub mod Kept
+pub mod Reading
+mod Worked

@@ -1,0 +1,83 @@
+-- Worked texts, each with the script or the fault that it is.
+use Rattle.std.proofs.Common.{◌≡◌, ℕ, List, [], ◌∷◌, ◌++◌, map, take, refl, Result, Ok, Err, codes}
+use Rattle.std.specs.List.{repeat}
+use Rattle.av_perm.specs.Lists.{counting}
+use Rattle.av_text.specs.declared.kind.Kind.{Kind}
+use Rattle.av_text.specs.declared.kind.Kind.TheVariants.{NoBasis, BadWord, LongWord, ManyWords, UnknownQuery, BadNumber, Range, BadByte, SecondBasis}
+use Rattle.av_text.specs.declared.queries.Query.{Query}
+use Rattle.av_text.specs.declared.queries.Query.TheVariants as query
+use Rattle.av_text.specs.declared.script.Script.{Script}
+use Rattle.av_text.specs.Lines.{script_lines, tokens}
+use Rattle.av_text.specs.Numerals.{is_digits, is_numeral, number_in}
+use Rattle.av_text.specs.Words.{is_comma_form, entries_of, checked_word, word_in}
+use Rattle.av_text.specs.Queries.{form_named, query_with_one, query_with, query_of}
+use Rattle.av_text.specs.Read.{Fault, basis_words, basis_said, tokens_said, line_said, lines_said, read}
+
+-- a fault at a line
+abbrev fault : ℕ → Kind → Result Script Fault
+fault line kind = Err (record { line = line; kind = kind })
+
+-- a script
+abbrev script : List (List ℕ) → List Query → Result Script Fault
+script basis queries = Ok (record { basis = basis; queries = queries })
+
+-- the word 132
+abbrev w132 : List ℕ
+w132 = 1 ∷ 3 ∷ 2 ∷ []
+
+-- texts, and what each is
+abbrev table : List (List ℕ × Result Script Fault)
+table =
+    (codes "basis 132\ncount 7\n", script (w132 ∷ []) (query.Count 7 ∷ []))
+    ∷ (codes "basis 1,3,2", script (w132 ∷ []) [])
+    ∷ (codes "basis 132\r\ncount 7\r\n", script (w132 ∷ []) (query.Count 7 ∷ []))
+    ∷ (codes "tree 213\nbasis 12 12 132\n# note\n\ncount 1", script ((1 ∷ 2 ∷ []) ∷ (1 ∷ 2 ∷ []) ∷ w132 ∷ []) (query.Tree (2 ∷ 1 ∷ 3 ∷ []) ∷ query.Count 1 ∷ []))
+    ∷ (codes "basis", script [] [])
+    ∷ ([], fault 0 NoBasis)
+    ∷ (codes "count 7", fault 0 NoBasis)
+    ∷ (codes "basis 1224", fault 1 BadWord)
+    ∷ (codes "basis 0", fault 1 BadWord)
+    ∷ (codes "basis 1234567890", fault 1 BadWord)
+    ∷ (codes "basis 2,1,3,", fault 1 BadWord)
+    ∷ (codes "basis 1,2,3,4,5,6,7,8,9,10,11,12,13", fault 1 LongWord)
+    ∷ (codes "basis 1111111111111", fault 1 LongWord)
+    ∷ (codes "basis" ++ repeat 65 (codes " 21"), fault 1 ManyWords)
+    ∷ (codes "BASIS 132", fault 1 UnknownQuery)
+    ∷ (codes "basis 132\ncuont 7", fault 2 UnknownQuery)
+    ∷ (codes "basis 132\ncount", fault 2 UnknownQuery)
+    ∷ (codes "basis 132\nlist 3 from", fault 2 UnknownQuery)
+    ∷ (codes "basis 132\nunrank 3 340282366920938463463374607431768211456", fault 2 UnknownQuery)
+    ∷ (codes "basis 132\ncount x", fault 2 BadNumber)
+    ∷ (codes "basis 132\ncount 07", fault 2 BadNumber)
+    ∷ (codes "basis 132\ncount 0", fault 2 Range)
+    ∷ (codes "basis 132\ncount 8", fault 2 Range)
+    ∷ (codes "basis 132\ncount 161", fault 2 Range)
+    ∷ (codes "basis 132\ncount 340282366920938463463374607431768211456", fault 2 Range)
+    ∷ (codes "basis 132\ntree 122", fault 2 BadWord)
+    ∷ (codes "basis 132\ntree 1,2,,3", fault 2 BadWord)
+    ∷ (codes "basis 132\n" ++ 195 ∷ [], fault 2 BadByte)
+    ∷ (codes "basis 132\r\r\ncount 7", fault 1 BadByte)
+    ∷ (codes "basis 132\n# note\nbasis 21", fault 3 SecondBasis)
+    ∷ []
+
+-- each text of the table is what it says
+pub each_is_so : map (λ row. read row.0) table ≡ map (λ row. row.1) table
+unfolding read lines_said line_said tokens_said basis_said basis_words word_in entries_of checked_word is_digits is_numeral is_comma_form script_lines tokens query_of query_with query_with_one form_named number_in
+each_is_so = refl
+
+-- the first text, cut after each number of bytes
+abbrev cuts : List (Result Script Fault)
+cuts =
+    fault 0 NoBasis
+    ∷ repeat 4 (fault 1 UnknownQuery ∷ [])
+    ++ repeat 2 (script [] [] ∷ [])
+    ++ script ((1 ∷ []) ∷ []) []
+    ∷ fault 1 BadWord
+    ∷ repeat 2 (script (w132 ∷ []) [] ∷ [])
+    ++ repeat 6 (fault 2 UnknownQuery ∷ [])
+    ++ repeat 2 (script (w132 ∷ []) (query.Count 7 ∷ []) ∷ [])
+
+-- each cut is what the list says
+pub each_cut_is_so : map (λ k. read (take k (codes "basis 132\ncount 7\n"))) (counting 0 19) ≡ cuts
+unfolding read lines_said line_said tokens_said basis_said basis_words word_in entries_of checked_word is_digits is_numeral is_comma_form script_lines tokens query_of query_with query_with_one form_named number_in
+each_cut_is_so = refl

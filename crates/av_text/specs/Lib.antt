@@ -1,0 +1,11 @@
+-- What a script is, and what it says or why it is refused.
+pub mod Steps
+pub mod Kinds
+pub mod Limits
+pub mod Lines
+pub mod Numerals
+pub mod Words
+pub mod Queries
+pub mod Read
+pub mod Ranges
+pub mod Answers

@@ -1,0 +1,48 @@
+// The kinds of faults.
+ghost use Rattle.std.specs.Prelude.{◌≡◌};
+ghost use Rattle.av_text.specs.Kinds.{number_of};
+
+/// Why a script is refused.
+#[derive(Clone, Copy, Debug, PartialEq, Eq, thiserror::Error)]
+pub enum Kind {
+    /// No line is a basis line.
+    #[error("there is no basis line")]
+    NoBasis = 1,
+    /// A token spells no word, since it has neither form of one or since its entries aren't the numbers 1 to their
+    /// number, each once.
+    #[error("a token is no word")]
+    BadWord = 2,
+    /// A word has more entries than may stand there: 12 in the basis line, 160 in a query.
+    #[error("a word is too long")]
+    LongWord = 3,
+    /// The basis line has more than 64 words.
+    #[error("there are more than 64 basis words")]
+    ManyWords = 4,
+    /// A line fits no form of a query.
+    #[error("the line is no query")]
+    UnknownQuery = 5,
+    /// An argument that should be a number is no numeral.
+    #[error("an argument is no number")]
+    BadNumber = 6,
+    /// A number is out of its range.
+    #[error("a number is out of range")]
+    Range = 7,
+    /// The text has more than 65,536 bytes.
+    #[error("the text is too long")]
+    TooLong = 8,
+    /// A line holds a byte that is neither a tab nor from space to `~`.
+    #[error("a byte isn't allowed")]
+    BadByte = 9,
+    /// A line is a basis line, and so is an earlier one.
+    #[error("there is a second basis line")]
+    SecondBasis = 10,
+}
+
+impl Kind {
+    /// The number that a fault is reported by, from 1 to 10.
+    pub fn number(self) -> u8
+        ensures { result ≡ number_of self }
+    {
+        self as u8
+    }
+}
