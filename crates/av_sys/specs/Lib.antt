@@ -1,0 +1,2 @@
+-- The definitions of constraints and names.
+pub mod Names
