@@ -1,0 +1,3 @@
+-- The definitions of constraints on words.
+pub mod Constraints
+pub mod Laws

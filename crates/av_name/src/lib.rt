@@ -1,0 +1,11 @@
+//! What a constraint on words tells of a pattern, and how a constraint grows.
+#![tactic(auto)]
+
+mod constraints;
+pub mod laws;
+mod names;
+#[cfg(test)]
+mod tests;
+
+pub use constraints::{Known, add_avoid, add_require, answer, free};
+pub use names::satisfies;
