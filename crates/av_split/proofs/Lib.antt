@@ -1,0 +1,7 @@
+pub mod GenericSplit
+pub mod WordSplit
+pub mod RowSteps
+pub mod Walks
+pub mod Numbered
+pub mod Cutting
+pub mod Worked
