@@ -1,0 +1,44 @@
+-- Texts, as lists of bytes.
+use Rattle.std.specs.Prelude.{ℕ, List, [], ◌∷◌, ◌++◌, length, nat_le, if◌then◌else◌, Option, Some, None, codes, decimal}
+use Rattle.std.specs.List.{join_by}
+use Rattle.av_decomp.specs.RootTrees.{RootTrees, none, more, RootTree}
+use Rattle.av_text.specs.declared.queries.Query.{Query}
+use Rattle.av_text.specs.declared.queries.Query.TheVariants as query
+
+-- one text, and then another
+infixr 65 ◌⊹◌
+abbrev pub ◌⊹◌ : List ℕ → List ℕ → List ℕ
+s ⊹ t = s ++ t
+
+-- a word: its digits up to nine entries, else its entries joined by commas
+unfoldable pub word_text : List ℕ → List ℕ
+word_text w = if nat_le (length w) 9 then join_by decimal [] w else join_by decimal (codes ",") w
+
+-- words joined by single spaces, or `none`
+unfoldable pub words_text : List (List ℕ) → List ℕ
+words_text [] = codes "none"
+words_text (w ∷ ws) = join_by word_text (codes " ") (w ∷ ws)
+
+-- the canonical text of a query
+unfoldable pub query_text : Query → List ℕ
+query_text (query.Count n) = codes "count " ⊹ decimal n
+query_text (query.Tree w) = codes "tree " ⊹ word_text w
+
+-- a root: its word, in round brackets where it has more than nine entries
+unfoldable pub root_text : List ℕ → List ℕ
+root_text π = if nat_le (length π) 9 then word_text π else codes "(" ⊹ word_text π ⊹ codes ")"
+
+-- a tree, by its root and the texts of its blocks: `1` for a point, else the root, and the texts joined by commas in
+-- square brackets
+unfoldable pub node_text : Option (List ℕ) → List (List ℕ) → List ℕ
+node_text None texts = codes "1"
+node_text (Some root) texts = root_text root ⊹ codes "[" ⊹ join_by (λ text. text) (codes ",") texts ⊹ codes "]"
+
+-- the texts of the trees of a list
+unfoldable pub tree_texts : RootTrees → List (List ℕ)
+tree_texts none = []
+tree_texts (more root blocks others) = node_text root (tree_texts blocks) ∷ tree_texts others
+
+-- a decomposition tree
+unfoldable pub tree_text : RootTree → List ℕ
+tree_text tree = node_text tree.root (tree_texts tree.blocks)

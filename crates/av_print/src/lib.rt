@@ -1,0 +1,26 @@
+//! Texts, written to a sink.
+//!
+//! Whatever has a text implements [`Text`], whose clauses say once what writing does: on `Ok` the bytes held grew by
+//! exactly the text, on an error by a prefix of it, and an error comes only where the sink's count of it rose. Texts in
+//! turn are tuples: `(Bytes(b"basis "), words, Bytes(b"\n")).put_on(sink)`. Nothing here takes memory of its own.
+#![tactic(auto)]
+
+mod bytes;
+mod joined;
+mod numbers;
+mod queries;
+mod text;
+mod trees;
+mod turns;
+mod words;
+
+pub use bytes::{Bytes, put};
+pub use joined::Joined;
+pub use numbers::{Number, put_number};
+pub use queries::put_query;
+pub use text::Text;
+pub use trees::put_tree;
+pub use words::{put_word, put_words};
+
+#[cfg(test)]
+mod tests;
