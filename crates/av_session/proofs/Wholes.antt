@@ -1,0 +1,130 @@
+-- The bytes that were taken say what all the bytes of the source say.
+use Rattle.std.proofs.Common.{◌≡◌, ℕ, ◌<◌, ◌≤◌, ◌⊎◌, inl, inr, List, [], ◌++◌, length, Option, Some, None, IfSome, Result, Ok, Err, append-nil, length-append, refl, sym, ap, ◌∙◌, subst, arith}
+use Rattle.std.proofs.lemmas.Bool.{cases_lt, lt-ltb}
+use Rattle.std.specs.Io.KnownBytes.{IsAtEnd}
+use Rattle.av_text.specs.declared.script.Script.{Script}
+use Rattle.av_text.specs.declared.kind.Kind.TheVariants.{TooLong}
+use Rattle.av_text.specs.Read.{read, Fault}
+use Rattle.av_session.specs.declared.options.Options.{Options}
+use Rattle.av_session.specs.declared.status.Status.{Status}
+use Rattle.av_session.specs.declared.status.Status.TheVariants as status
+use Rattle.av_session.specs.Taken.{TakesAll}
+use Rattle.av_session.specs.Due.{text_due, text_of}
+use Rattle.av_session.specs.Status.{HoldsText, FitsText, FitsRead, FitsScript}
+use Rattle.av_session.specs.Options.{options}
+use Rattle.av_session.specs.Runs.{due, Fits, Fits_of, ReadsWhole, IsComplete}
+
+too_long : (bytes : List ℕ) → 65536 < length bytes → read bytes ≡ Err (record { line = 0; kind = TooLong })
+unfolding read
+too_long bytes h = rw (lt-ltb 65536 (length bytes) h) refl
+
+read_same : (all taken left : List ℕ) → all ≡ taken ++ left → length taken ≤ 65537 → (length taken < 65537 → left ≡ []) → read taken ≡ read all
+read_same all taken left e most end = elim (cases_lt (length taken) 65537) [
+  | inl lt ↦ ap read (sym (append-nil taken) ∙ ap (λ t. taken ++ t) (sym (end lt)) ∙ sym e)
+  | inr ge ↦ too_long taken (omega arith) ∙ sym (too_long all (omega (arith, ap length e, length-append taken left)))
+]
+
+-- a script is read to the end of its source
+script_end : (taken : List ℕ) (new : Option (List ℕ)) (script : Script) → read taken ≡ Ok script → (length taken < 65537 → IsAtEnd new) → IsAtEnd new
+script_end taken new script e end = elim (cases_lt 65536 (length taken)) [
+  | inl long ↦ absurd (let f : Err (record { line = 0; kind = TooLong }) ≡ Ok script = sym (too_long taken long) ∙ e in cc)
+  | inr short ↦ end (omega arith)
+]
+
+module _ (o : Options) (old new held held' : Option (List ℕ)) (taken : List ℕ) (t : TakesAll 65537 old new taken) (s : Status) where
+  pub text_whole : HoldsText s held held' (text_due o taken) → IfSome old (λ bytes. HoldsText s held held' (text_due o bytes))
+  unfolding text_due
+  text_whole h = by old new t
+    where
+      by : (old new : Option (List ℕ)) → TakesAll 65537 old new taken → IfSome old (λ bytes. HoldsText s held held' (text_of o (read bytes)))
+      by None new u = tt
+      by (Some all) None u = absurd u.0
+      by (Some all) (Some left) u = rw (← read_same all taken left u.0 u.1 u.2) h
+
+  pub fits_whole : FitsText s o taken → IfSome old (λ bytes. FitsText s o bytes)
+  fits_whole h = by old new t
+    where
+      by : (old new : Option (List ℕ)) → TakesAll 65537 old new taken → IfSome old (λ bytes. FitsRead s o (read bytes))
+      by None new u = tt
+      by (Some all) None u = absurd u.0
+      by (Some all) (Some left) u = rw (← read_same all taken left u.0 u.1 u.2) h
+
+  pub whole_read : FitsText s o taken → ReadsWhole s old new
+  whole_read h = by s h
+    where
+      done : (r : Result Script Fault) → read taken ≡ r → FitsRead status.Done o r → IsAtEnd new
+      done (Ok script) e f = script_end taken new script e t.2
+      done (Err fault) e f = absurd f
+
+      by : (s : Status) → FitsText s o taken → ReadsWhole s old new
+      by status.Done f = ((taken, t), done (read taken) refl f)
+      by status.Memory f = tt
+      by status.Words f = tt
+      by status.ReadFault f = tt
+      by status.WriteFault f = tt
+      by status.Refused f = (taken, t)
+      by status.Unsettled f = (taken, t)
+
+-- want of memory and a fault of the source may come with any bytes
+free_read : (o : Options) (r : Result Script Fault) → FitsRead status.Memory o r × FitsRead status.ReadFault o r
+free_read o (Ok script) = (tt, tt)
+free_read o (Err fault) = (tt, tt)
+
+pub memory_fits : (o : Options) (old : Option (List ℕ)) → IfSome old (λ bytes. FitsText status.Memory o bytes)
+memory_fits o None = tt
+memory_fits o (Some bytes) = (free_read o (read bytes)).0
+
+pub read_fault_fits : (o : Options) (old : Option (List ℕ)) → IfSome old (λ bytes. FitsText status.ReadFault o bytes)
+read_fault_fits o None = tt
+read_fault_fits o (Some bytes) = (free_read o (read bytes)).1
+
+-- the same with the words of the command line, which set these options
+pub due_text : (words : List (List ℕ)) (o : Options) (s : Status) (old held held' : Option (List ℕ)) → Some o ≡ options words
+    → IfSome old (λ bytes. HoldsText s held held' (text_due o bytes)) → IfSome old (λ bytes. HoldsText s held held' (due words bytes))
+unfolding due
+due_text words o s None held held' e h = tt
+due_text words o s (Some bytes) held held' e h = rw (← e) h
+
+pub due_fits : (words : List (List ℕ)) (o : Options) (s : Status) (old : Option (List ℕ)) → Some o ≡ options words
+    → IfSome old (λ bytes. FitsText s o bytes) → IfSome old (λ bytes. Fits s words bytes)
+unfolding Fits
+due_fits words o s None e h = tt
+due_fits words o s (Some bytes) e h = rw (← e) h
+
+-- words that aren't accepted ask for nothing of the text
+pub no_options_fits : (words : List (List ℕ)) (s : Status) (old : Option (List ℕ)) → None ≡ options words → IfSome old (λ bytes. Fits s words bytes)
+unfolding Fits
+no_options_fits words s None e = tt
+no_options_fits words s (Some bytes) e = rw (← e) tt
+
+-- want of memory fits with any words
+pub memory_fits_all : (words : List (List ℕ)) (old : Option (List ℕ)) → IfSome old (λ bytes. Fits status.Memory words bytes)
+unfolding Fits
+memory_fits_all words None = tt
+memory_fits_all words (Some bytes) = by (options words)
+  where
+    by : (o : Option Options) → Fits_of status.Memory o bytes
+    by None = tt
+    by (Some o) = (free_read o (read bytes)).0
+
+-- no status but Done and Memory is left
+pub complete_by : (s : Status) (left : Option (List ℕ)) (words : List (List ℕ)) (R W : Type 0) → (s ≡ status.Words → options words ≡ None) → (s ≡ status.ReadFault → R) → (s ≡ status.WriteFault → W)
+    → IfSome left (λ bytes. Fits s words bytes) → IsComplete s left words R W
+unfolding Fits
+complete_by s left words R W no_words read_rose write_rose fits bytes o script g l a r settled no_read no_write = by s no_words read_rose write_rose here
+  where
+    told : (left : Option (List ℕ)) → left ≡ Some bytes → IfSome left (λ bytes. Fits_of s (options words) bytes) → Fits_of s (options words) bytes
+    told None e f = absurd (cc)
+    told (Some all) e f = let same : all ≡ bytes = cc in subst (λ b. Fits_of s (options words) b) same f
+
+    here : FitsScript s o script
+    here = rw r at (rw a at (told left l fits))
+
+    by : (s : Status) → (s ≡ status.Words → options words ≡ None) → (s ≡ status.ReadFault → R) → (s ≡ status.WriteFault → W) → FitsScript s o script → (s ≡ status.Done) ⊎ (s ≡ status.Memory)
+    by status.Done n p q f = inl refl
+    by status.Memory n p q f = inr refl
+    by status.Words n p q f = absurd (let e : Some o ≡ None = sym a ∙ n refl in cc)
+    by status.ReadFault n p q f = absurd (no_read (p refl))
+    by status.WriteFault n p q f = absurd (no_write (q refl))
+    by status.Refused n p q f = absurd f
+    by status.Unsettled n p q f = absurd (let e : Some g ≡ None = sym settled ∙ f in cc)

@@ -1,0 +1,31 @@
+-- The words of the command line set the options, and each script is about its basis.
+use Rattle.std.proofs.Common.{sym}
+use Rattle.av_session.proofs.Abouts.{about}
+use Rattle.av_session.proofs.Wholes.{due_text, due_fits, no_options_fits, memory_fits_all, complete_by}
+use Rattle.av_session.proofs.top.run.Goals as goal
+
+pub returns-in-Ok-clause-fits : goal.returns-in-Ok-clause-fits
+returns-in-Ok-clause-fits g c = due_fits _ c.in-Ok.options c.run_with.result _ (sym c.in-Ok.ensures.said) c.run_with.ensures.fits
+
+pub returns-in-Ok-clause-text : goal.returns-in-Ok-clause-text
+returns-in-Ok-clause-text g c = due_text _ c.in-Ok.options c.run_with.result _ _ _ (sym c.in-Ok.ensures.said) c.run_with.ensures.text
+
+pub returns-in-Ok-clause-about : goal.returns-in-Ok-clause-about
+returns-in-Ok-clause-about g c bytes script e = about bytes script e
+
+pub returns-in-Err-Words-clause-fits : goal.returns-in-Err-Words-clause-fits
+returns-in-Err-Words-clause-fits g c = let e = rw c.in-Err-Words.field-0-is at c.in-Err-Words.ensures in no_options_fits _ _ _ (sym e.said)
+
+pub returns-in-Err-Words-clause-about : goal.returns-in-Err-Words-clause-about
+returns-in-Err-Words-clause-about g c bytes script e = about bytes script e
+
+pub returns-in-Err-Memory-clause-fits : goal.returns-in-Err-Memory-clause-fits
+returns-in-Err-Memory-clause-fits g c = memory_fits_all _ _
+
+pub returns-in-Err-Memory-clause-about : goal.returns-in-Err-Memory-clause-about
+returns-in-Err-Memory-clause-about g c bytes script e = about bytes script e
+
+pub returns-in-Ok-clause-complete : goal.returns-in-Ok-clause-complete
+returns-in-Ok-clause-complete g c =
+    complete_by c.run_with.result _ _ _ _ (λ e. absurd (c.run_with.ensures.not_words e)) c.run_with.ensures.read_fault c.run_with.ensures.write_fault
+    (due_fits _ c.in-Ok.options c.run_with.result _ (sym c.in-Ok.ensures.said) c.run_with.ensures.fits)

@@ -1,0 +1,20 @@
+//! The top call of `permspec`: a script from a source, its answers to a sink.
+//!
+//! [`run`] reads the words of the command line and the whole source, and writes the text due, which
+//! `specs/Due.antt` defines. Its clauses say what each status means for every source and sink, whatever they do.
+#![tactic(auto)]
+
+mod answers;
+mod header;
+mod options;
+mod reading;
+mod session;
+mod status;
+mod stop;
+#[cfg(test)]
+mod tests;
+mod top;
+
+pub use options::{Options, WordsError, read_words};
+pub use status::Status;
+pub use top::run;

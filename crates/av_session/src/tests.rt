@@ -1,0 +1,211 @@
+// Whole runs, with sources and sinks in memory: what is written, and how the run ends.
+use crate::{Status, run};
+use av_io::{MemSink, MemSource, SureSink, SureSource};
+use av_match::minimal;
+use av_perm::{Memory, NotPerm, Perm, Words, is_simple};
+use av_simple::{Outcome, search};
+use av_text::read_script;
+use std::alloc::{AllocError, Global};
+use std::test::Fail;
+
+const CATALAN: &[u8] = b"basis 132\ncount 7\n";
+
+const CATALAN_ANSWER: &[u8] = b"permspec 1\nbasis 132\nsimples 4:0 5:0\ngap 4\ncount 7 = 429\n";
+
+// The words of a command line.
+fn command_line(alloc: Global, texts: &[&str]) -> Result<Vec<String>, AllocError> {
+    let mut words = Vec::new(alloc);
+    for text in texts {
+        words.push(String::from_str(alloc, text)?)?;
+    }
+    Ok(words)
+}
+
+// How a run ended, and what its sink holds.
+#[derive(Drop)]
+struct Ended {
+    status: Status,
+    held: Vec<u8>,
+}
+
+// Runs over a source and a sink that never fail.
+fn run_script(alloc: Global, options: &[&str], script: &[u8]) -> Result<Ended, AllocError> {
+    let words = command_line(alloc, options)?;
+    let mut source = SureSource::new(Vec::from_slice(alloc, script)?);
+    let mut sink = SureSink::new(alloc);
+    let status = run(alloc, &words, &mut source, &mut sink);
+    let held = Vec::from_slice(alloc, sink.bytes())?;
+    Ok(Ended { status, held })
+}
+
+static ANSWERED: [(&str, Status, &str); 8] = [
+    (
+        "basis 132\r\n\r\n# Catalan\r\ncount 7",
+        Status::Done,
+        "permspec 1\nbasis 132\nsimples 4:0 5:0\ngap 4\ncount 7 = 429\n",
+    ),
+    (
+        "basis 2413 3142\ncount 1\ncount 4\ncount 7\n",
+        Status::Done,
+        "permspec 1\nbasis 2413 3142\nsimples 4:0 5:0\ngap 4\ncount 1 = 1\ncount 4 = 22\ncount 7 = 1806\n",
+    ),
+    (
+        "basis 12 12 132\ncount 5\n",
+        Status::Done,
+        "permspec 1\nbasis 12\nsimples 4:0 5:0\ngap 4\ncount 5 = 1\n",
+    ),
+    (
+        "basis 1\ncount 1\n",
+        Status::Done,
+        "permspec 1\nbasis 1\nsimples 4:0 5:0\ngap 4\ncount 1 = 0\n",
+    ),
+    (
+        "basis\n",
+        Status::Unsettled,
+        "permspec 1\nbasis none\nsimples 4:2 5:6 6:46 7:338 8:2926\nunsettled 8\n",
+    ),
+    (
+        "basis 132\ntree 213\ntree 2,6,1,4,5,3\n",
+        Status::Done,
+        "permspec 1\nbasis 132\nsimples 4:0 5:0\ngap 4\ntree 213 = 12[21[1,1],1]\ntree 261453 = 2413[1,1,1,21[12[1,1],1]]\n",
+    ),
+    ("basis 132\ncount 8\n", Status::Refused, "fault 2 7\n"),
+    ("", Status::Refused, "fault 0 1\n"),
+];
+
+#[test]
+fn scripts_are_answered(rt: HostRuntime) -> Result<(), Fail> {
+    for (script, status, text) in &ANSWERED {
+        let ended = run_script(rt.alloc(), &[], script.as_bytes())?;
+        assert!(rt; ended.status == *status, "{script}");
+        assert!(rt; ended.held.as_slice() == text.as_bytes(), "{script}");
+    }
+    Ok(())
+}
+
+// The ten words of which the class has gap 5, and two simple words of length 4.
+const TEN: &[u8] = b"basis 24153 25314 31524 35142 41352 42513 246135 362514 415263 531642\n";
+
+#[test]
+fn the_limit_decides(rt: HostRuntime) -> Result<(), Fail> {
+    let settled = run_script(rt.alloc(), &["--max-simple", "6"], TEN)?;
+    assert!(rt; settled.status == Status::Done);
+    assert!(rt; settled.held.ends_with(b"simples 4:2 5:0 6:0\ngap 5\n"));
+    let unsettled = run_script(rt.alloc(), &["--max-simple=5"], TEN)?;
+    assert!(rt; unsettled.status == Status::Unsettled);
+    assert!(rt; unsettled.held.ends_with(b"simples 4:2 5:0\nunsettled 5\n"));
+    Ok(())
+}
+
+#[test]
+fn other_words_are_refused(rt: HostRuntime) -> Result<(), Fail> {
+    let refused: [&[&str]; 8] = [
+        &["--max-simple", "4"],
+        &["--max-simple", "11"],
+        &["--max-simple=08"],
+        &["--max-simple"],
+        &["--max-simple", "8", "--max-simple", "8"],
+        &["--max-simples=8"],
+        &["--"],
+        &["x"],
+    ];
+    for words in &refused {
+        let ended = run_script(rt.alloc(), words, CATALAN)?;
+        assert!(rt; ended.status == Status::Words, "{words:?}");
+        assert!(rt; ended.held.is_empty(), "{words:?}");
+    }
+    Ok(())
+}
+
+#[test]
+fn sources_may_fail_or_give_a_byte_a_call(rt: HostRuntime) -> Result<(), Fail> {
+    let alloc = rt.alloc();
+    let mut failing = MemSource::new(Vec::from_slice(alloc, CATALAN)?, 1, vec![in alloc; 1]?);
+    let mut unused = SureSink::new(alloc);
+    let status = run(alloc, &[], &mut failing, &mut unused);
+    assert!(rt; status == Status::ReadFault);
+    assert!(rt; unused.bytes().is_empty());
+
+    let mut slow = MemSource::new(Vec::from_slice(alloc, CATALAN)?, 1, Vec::new(alloc));
+    let mut sink = SureSink::new(alloc);
+    let status = run(alloc, &[], &mut slow, &mut sink);
+    assert!(rt; status == Status::Done);
+    assert!(rt; sink.bytes() == CATALAN_ANSWER);
+    Ok(())
+}
+
+#[test]
+fn a_sink_that_fails_holds_a_prefix(rt: HostRuntime) -> Result<(), Fail> {
+    let alloc = rt.alloc();
+    let mut source = SureSource::new(Vec::from_slice(alloc, CATALAN)?);
+    let mut sink = MemSink::new(alloc, 1, vec![in alloc; 3]?);
+    let status = run(alloc, &[], &mut source, &mut sink);
+    assert!(rt; status == Status::WriteFault);
+    assert!(rt; sink.bytes() == b"pe".as_slice());
+    Ok(())
+}
+
+// A script that asks for the tree of the word n, .., 2, 1, and its text.
+fn falling(alloc: Global, n: u8) -> Result<Vec<u8>, AllocError> {
+    let mut script = Vec::from_slice(alloc, b"basis 132\ntree ")?;
+    for k in 0..n {
+        let entry = n - k;
+        script.extend_from_slice(format!(in alloc; "{entry}")?.as_bytes())?;
+        script.extend_from_slice(if entry == 1 { b"\n" } else { b"," })?;
+    }
+    Ok(script)
+}
+
+// The longest words have the deepest trees.
+#[test]
+fn a_tree_of_depth_159(rt: HostRuntime) -> Result<(), Fail> {
+    let script = falling(rt.alloc(), 160)?;
+    let ended = run_script(rt.alloc(), &[], &script)?;
+    assert!(rt; ended.status == Status::Done);
+    // 43 bytes of header, the word of 531, and 955 of the tree: 158 times `21[1,` and `]` round `21[1,1]`.
+    assert_eq!(rt; ended.held.len(), 43 + 5 + 531 + 3 + 955 + 1);
+    assert!(rt; ended.held.ends_with(b"]]]]\n"));
+    Ok(())
+}
+
+#[test]
+fn lists_are_told_from_words(rt: HostRuntime) -> Result<(), Fail> {
+    let long = [1u8; 161];
+    let none: [u8; 0] = [];
+    let faults: [(&[u8], usize); 3] = [(&[1, 2, 2, 4], 3), (&none, 1), (&long, 162)];
+    for (entries, place) in &faults {
+        assert!(rt; Perm::from_entries(entries) == Err(NotPerm { at: *place }));
+    }
+    let Ok(word) = Perm::from_entries(&[2, 4, 1, 3, 5]) else {
+        assert!(rt; false);
+        return Ok(());
+    };
+    assert!(rt; !is_simple(&word), "2413 is an interval of it");
+    Ok(())
+}
+
+// The roots of the class of the ten words.
+fn roots(alloc: Global) -> Result<Option<Words>, Memory> {
+    let Ok(script) = read_script(alloc, TEN) else {
+        return Ok(None);
+    };
+    let basis = minimal(alloc, &script.basis.copy(alloc)?)?;
+    let found = search(alloc, &basis, 6)?;
+    match found.outcome() {
+        Outcome::Gap(_) => Ok(Some(found.roots(alloc)?)),
+        Outcome::Unsettled => Ok(None),
+    }
+}
+
+#[test]
+fn two_simple_words_are_below_the_gap(rt: HostRuntime) {
+    let Ok(Some(roots)) = roots(rt.alloc()) else {
+        assert!(rt; false);
+        return;
+    };
+    let wanted: [[u8; 4]; 2] = [[2, 4, 1, 3], [3, 1, 4, 2]];
+    assert_eq!(rt; roots.len(), 2);
+    for (root, entries) in roots.as_slice().iter().zip(&wanted) {
+        assert!(rt; root.as_slice() == entries.as_slice());
+    }
+}

@@ -1,0 +1,84 @@
+// The top call.
+ghost use Rattle.std.specs.Prelude.{◌≡◌, ◌≤◌, ◌↔◌, List, ℕ, IfSome, Some, None, Ok, map, string_bytes};
+ghost use Rattle.std.specs.Io.KnownBytes.{Keeps};
+ghost use Rattle.av_io.specs.Causes.{Rose};
+ghost use Rattle.av_text.specs.Read.{read};
+ghost use Rattle.av_text.specs.declared.script.Script.{Script};
+ghost use Rattle.av_session.specs.Options.{options};
+ghost use Rattle.av_session.specs.Taken.{TakesUpTo};
+ghost use Rattle.av_session.specs.Status.{HoldsText, FitsText};
+ghost use Rattle.av_session.specs.Due.{text_due};
+ghost use Rattle.av_session.specs.Runs.{due, Fits, ReadsWhole, IsComplete, IsAbout};
+
+use crate::options::{Options, WordsError, read_words};
+use crate::reading::{ReadError, read_all};
+use crate::session::answer;
+use crate::status::Status;
+use av_io::{Sink, Source};
+use std::alloc::Global;
+
+/// Reads the script that the source has, and writes the text due of these options.
+fn run_with<S: Source, K: Sink>(
+    alloc: Global,
+    options: &Options,
+    source: &mut S,
+    sink: &mut K,
+) -> Status
+    requires low { 5 ≤ options.now.max_simple }
+    requires high { options.now.max_simple ≤ 10 }
+    ensures not_words { result ≡ Status.Words → ⊥ }
+    ensures read_fault { result ≡ Status.ReadFault → Rose (S.faults source.old) (S.faults source.new) }
+    ensures write_fault { result ≡ Status.WriteFault → Rose (K.faults sink.old) (K.faults sink.new) }
+    ensures fits { IfSome (S.left source.old) (λ bytes. FitsText result options.now bytes) }
+    ensures text { IfSome (S.left source.old) (λ bytes. HoldsText result (K.held sink.old) (K.held sink.new) (text_due options.now bytes)) }
+    ensures unwritten { result ≡ Status.ReadFault → sink.new ≡ sink.old }
+    ensures took { TakesUpTo 65537 (S.left source.old) (S.left source.new) }
+    ensures input { ReadsWhole result (S.left source.old) (S.left source.new) }
+    ensures source_later { S.faults source.old ≤ S.faults source.new }
+    ensures sink_later { K.faults sink.old ≤ K.faults sink.new }
+{
+    match read_all(alloc, source) {
+        Ok(bytes) => answer(alloc, sink, options, &bytes),
+        Err(ReadError::Failed) => Status::ReadFault,
+        Err(ReadError::Memory) => Status::Memory,
+    }
+}
+
+/// Reads the words of the command line and the script that the source has, and writes the text due to the sink.
+///
+/// The text due is a function of the words and of all the bytes of the source, however its reads cut them. Each status
+/// other than `Memory` has its cause: the words (`Words`), a count of faults that rose in this call or stands at its
+/// last value (`ReadFault`, `WriteFault`), the bytes (`Refused`, `Unsettled`). `Memory` is free.
+pub fn run<S: Source, K: Sink>(
+    alloc: Global,
+    words: &[String],
+    source: &mut S,
+    sink: &mut K,
+) -> Status
+    // When each status comes.
+    ensures words { result ≡ Status.Words → options (map string_bytes words.now) ≡ None }
+    ensures refused_words { options (map string_bytes words.now) ≡ None → (result ≡ Status.Memory → ⊥) → result ≡ Status.Words }
+    ensures read_fault { result ≡ Status.ReadFault → Rose (S.faults source.old) (S.faults source.new) }
+    ensures write_fault { result ≡ Status.WriteFault → Rose (K.faults sink.old) (K.faults sink.new) }
+    ensures fits { IfSome (S.left source.old) (λ bytes. Fits result (map string_bytes words.now) bytes) }
+
+    // What the sink holds then, and what was read.
+    ensures text { IfSome (S.left source.old) (λ bytes. HoldsText result (K.held sink.old) (K.held sink.new) (due (map string_bytes words.now) bytes)) }
+    ensures unread { result ≡ Status.Words → source.new ≡ source.old }
+    ensures unwritten { result ≡ Status.Words → sink.new ≡ sink.old }
+    ensures unwritten_fault { result ≡ Status.ReadFault → sink.new ≡ sink.old }
+    ensures took { TakesUpTo 65537 (S.left source.old) (S.left source.new) }
+    ensures input { ReadsWhole result (S.left source.old) (S.left source.new) }
+    ensures source_later { S.faults source.old ≤ S.faults source.new }
+    ensures sink_later { K.faults sink.old ≤ K.faults sink.new }
+    ensures complete { IsComplete result (S.left source.old) (map string_bytes words.now) (Rose (S.faults source.old) (S.faults source.new)) (Rose (K.faults sink.old) (K.faults sink.new)) }
+
+    // What the text says, in the words of the textbook.
+    ensures about { (bytes : List ℕ) (script : Script) → read bytes ≡ Ok script → IsAbout script }
+{
+    match read_words(alloc, words) {
+        Ok(options) => run_with(alloc, &options, source, sink),
+        Err(WordsError::Words) => Status::Words,
+        Err(WordsError::Memory) => Status::Memory,
+    }
+}
