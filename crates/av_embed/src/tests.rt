@@ -2,7 +2,8 @@
 ghost use Rattle.std.specs.Prelude.{◌≡◌, ◌≤◌, length};
 
 use crate::{Embeddings, Map, fibre};
-use av_perm::Perm;
+use av_perm::{Memory, Perm};
+use std::alloc::Global;
 use std::process::Abort;
 
 // The word with these entries.
@@ -73,15 +74,78 @@ fn embeddings_of_2143_in_12(rt: HostRuntime) {
     assert!(rt; embeddings.next().is_none());
 }
 
-// The numbers are those of a search through all maps.
+// Whether two places of a pattern may go to two children of a root: the later one goes no further left, and their entries
+// lie as the entries of the children do, where these differ.
+fn may_go(root: &Perm, first: (u8, usize), later: (u8, usize)) -> bool {
+    match (root.as_slice().get(first.1), root.as_slice().get(later.1)) {
+        (Some(x), Some(y)) => first.1 == later.1
+            || (first.1 < later.1 && (first.0 < later.0) == (*x < *y)),
+        _ => false,
+    }
+}
+
+// Whether the children, counted from 0, that the places go to are those of an embedding.
+fn is_embedding(pattern: &Perm, root: &Perm, children: &[usize]) -> bool {
+    for (s, first) in pattern.as_slice().iter().zip(children).enumerate() {
+        for (t, later) in pattern.as_slice().iter().zip(children).enumerate() {
+            if s < t && !may_go(root, (*first.0, *first.1), (*later.0, *later.1)) {
+                return false;
+            }
+        }
+    }
+    true
+}
+
+// Map number `code` of those that take each place to one of some children.
+fn map_of(
+    alloc: Global,
+    code: usize,
+    places: usize,
+    children: usize,
+) -> Result<Vec<usize>, Memory> {
+    let mut rest = code;
+    let mut map = Vec::new(alloc);
+    for _ in 0..places {
+        if children > 0 {
+            map.push(rest % children).map_err(|_| Memory)?;
+            rest /= children;
+        }
+    }
+    Ok(map)
+}
+
+// How many of all maps are embeddings.
+fn count_by_filter(alloc: Global, pattern: &Perm, root: &Perm) -> Result<usize, Memory> {
+    let mut maps: usize = 1;
+    for _ in pattern.as_slice() {
+        maps = maps.saturating_mul(root.len());
+    }
+    let mut count: usize = 0;
+    for code in 0..maps {
+        let map = map_of(alloc, code, pattern.len(), root.len())?;
+        if is_embedding(pattern, root, &map) {
+            count = count.saturating_add(1);
+        }
+    }
+    Ok(count)
+}
+
 #[test]
-fn embeddings_in_simple_roots(rt: HostRuntime) {
+fn embeddings_in_simple_roots(rt: HostRuntime) -> Result<(), Memory> {
     let root = word(&rt, &[2, 4, 1, 3]);
-    assert_eq!(rt; count(&word(&rt, &[4, 1, 3, 5, 2]), &root), 4);
-    assert_eq!(rt; count(&word(&rt, &[2, 1, 4, 3, 6, 5]), &root), 12);
+    let pattern = word(&rt, &[4, 1, 3, 5, 2]);
+    assert_eq!(rt; count(&pattern, &root), 4);
+    assert_eq!(rt; count_by_filter(rt.alloc(), &pattern, &root)?, 4);
+    let pattern = word(&rt, &[2, 1, 4, 3, 6, 5]);
+    assert_eq!(rt; count(&pattern, &root), 12);
+    assert_eq!(rt; count_by_filter(rt.alloc(), &pattern, &root)?, 12);
     let root = word(&rt, &[2, 5, 3, 1, 4]);
-    assert_eq!(rt; count(&word(&rt, &[2, 1, 4, 3, 6, 5]), &root), 20);
-    assert_eq!(rt; count(&word(&rt, &[1, 2, 3, 4, 5, 6]), &root), 40);
+    assert_eq!(rt; count(&pattern, &root), 20);
+    assert_eq!(rt; count_by_filter(rt.alloc(), &pattern, &root)?, 20);
+    let pattern = word(&rt, &[1, 2, 3, 4, 5, 6]);
+    assert_eq!(rt; count(&pattern, &root), 40);
+    assert_eq!(rt; count_by_filter(rt.alloc(), &pattern, &root)?, 40);
+    Ok(())
 }
 
 #[test]
