@@ -86,6 +86,9 @@ fn scripts_are_answered(rt: HostRuntime) -> Result<(), Fail> {
 // The ten words of which the class has gap 5, and two simple words of length 4.
 const TEN: &[u8] = b"basis 24153 25314 31524 35142 41352 42513 246135 362514 415263 531642\n";
 
+// The six simple words of length 5.
+const SIX: &[u8] = b"basis 24153 25314 31524 35142 41352 42513\n";
+
 #[test]
 fn the_limit_decides(rt: HostRuntime) -> Result<(), Fail> {
     let settled = run_script(rt.alloc(), &["--max-simple", "6"], TEN)?;
@@ -94,6 +97,14 @@ fn the_limit_decides(rt: HostRuntime) -> Result<(), Fail> {
     let unsettled = run_script(rt.alloc(), &["--max-simple=5"], TEN)?;
     assert!(rt; unsettled.status == Status::Unsettled);
     assert!(rt; unsettled.held.ends_with(b"simples 4:2 5:0\nunsettled 5\n"));
+    // One empty length is not enough.
+    let one_empty = run_script(rt.alloc(), &["--max-simple", "6"], SIX)?;
+    assert!(rt; one_empty.status == Status::Unsettled);
+    assert!(rt;
+        one_empty
+            .held
+            .ends_with(b"simples 4:2 5:0 6:4\nunsettled 6\n")
+    );
     Ok(())
 }
 
