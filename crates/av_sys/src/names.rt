@@ -42,3 +42,18 @@ impl Constraint {
         })
     }
 }
+
+impl Name {
+    /// An equal name.
+    pub fn copy(&self, alloc: Global) -> Result<Name, Memory>
+        ensures { IfOk result (λ copy. copy ≡ self.now) }
+    {
+        let avoid = self.avoid.copy(alloc)?;
+        let require = self.require.copy(alloc)?;
+        Ok(Name {
+            sign: self.sign,
+            avoid,
+            require,
+        })
+    }
+}
