@@ -1,5 +1,6 @@
 pub mod GenericSplit
 pub mod WordSplit
+pub mod BoxWords
 pub mod RowSteps
 pub mod Walks
 pub mod Numbered

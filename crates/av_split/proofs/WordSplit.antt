@@ -1,5 +1,5 @@
 -- The split at words.
-use Rattle.std.proofs.Common.{◌≡◌, ℕ, zero, suc, ◌+◌, ◌-◌, ◌<◌, ◌≤◌, inl, inr, ◌↔◌, List, [], ◌∷◌, map, length, get_or, set, replicate, Bool, true, false, refl, sym, ap, ◌∙◌, subst, arith}
+use Rattle.std.proofs.Common.{◌≡◌, ℕ, zero, suc, ◌+◌, ◌-◌, ◌<◌, ◌≤◌, ◌⊎◌, inl, inr, ◌↔◌, List, [], ◌∷◌, map, length, get_or, set, replicate, Bool, true, false, refl, sym, ap, ◌∙◌, subst, arith}
 use Rattle.std.specs.List.{flat_map}
 use Rattle.std.proofs.lemmas.Bool.{cases_eq}
 use Rattle.std.proofs.lemmas.List.{get_or-set_same, get_or-set_other, length-set, get_or-replicate, length-replicate}
@@ -196,7 +196,7 @@ ask_In i [] h = absurd (h refl)
 ask_In i (x ∷ l) h = inl refl
 
 -- and nothing else
-In_ask : (i : ℕ) (l : List ℕ) (q : Query) → In q (ask i l) → (q ≡ record { child = i; word = pattern_of l }) × (l ≡ [] → ⊥)
+pub In_ask : (i : ℕ) (l : List ℕ) (q : Query) → In q (ask i l) → (q ≡ record { child = i; word = pattern_of l }) × (l ≡ [] → ⊥)
 In_ask i [] q h = absurd h
 In_ask i (x ∷ l) q (inl e) = (e, λ k. cc)
 In_ask i (x ∷ l) q (inr h) = absurd h
@@ -239,20 +239,28 @@ some_contains π γ αs w b = (
       ),
 )
 
--- the queries of a name are of the children
-pub demands_apt : (π : List ℕ) (A R : List (List ℕ)) → Each IsWord A → Each IsWord R → Each (Apt (length π)) (queries_of (demands π A R))
-demands_apt π A R ga gr q i =
+-- what holds of each query of each embedding of each word of a name holds of each query of the name
+pub demands_each : (P : Query → Type 0) (π : List ℕ) (A R : List (List ℕ)) → ((γ e : List ℕ) → In γ A ⊎ In γ R → Each P (queries π γ e)) → Each P (queries_of (demands π A R))
+demands_each P π A R h q i =
     let d = In_flat_map (λ (d : Demand Query). flat_map (λ (m : List Query). m) d.embeddings) (demands π A R) q i in
     let m = In_flat_map (λ (m : List Query). m) (d.0).embeddings q d.2 in
     of_demand d.0 m.0 (elim (In_append_cases (map (demand π false) A) (map (demand π true) R) d.0 d.1) [
-      | inl j ↦ let g = In_map (demand π false) A d.0 j in (g.0, ga g.0 g.1, ap (λ (e : Demand Query). e.embeddings) g.2)
-      | inr j ↦ let g = In_map (demand π true) R d.0 j in (g.0, gr g.0 g.1, ap (λ (e : Demand Query). e.embeddings) g.2)
+      | inl j ↦ let g = In_map (demand π false) A d.0 j in (g.0, inl g.1, ap (λ (e : Demand Query). e.embeddings) g.2)
+      | inr j ↦ let g = In_map (demand π true) R d.0 j in (g.0, inr g.1, ap (λ (e : Demand Query). e.embeddings) g.2)
     ]) m.1 m.2
   where
-    of_demand : (d : Demand Query) (m : List Query) → (γ : List ℕ) × IsWord γ × (d.embeddings ≡ map (queries π γ) (embeddings π γ)) → In m d.embeddings → In q m → Apt (length π) q
+    of_demand : (d : Demand Query) (m : List Query) → (γ : List ℕ) × (In γ A ⊎ In γ R) × (d.embeddings ≡ map (queries π γ) (embeddings π γ)) → In m d.embeddings → In q m → P q
     of_demand d m g i j =
         let e = In_map (queries π g.0) (embeddings π g.0) m (subst (In m) g.2 i) in
-        queries_apt π g.0 e.0 q g.1 (subst (In q) e.2 j)
+        h g.0 e.0 g.1 q (subst (In q) e.2 j)
+
+-- the queries of a name are of the children
+pub demands_apt : (π : List ℕ) (A R : List (List ℕ)) → Each IsWord A → Each IsWord R → Each (Apt (length π)) (queries_of (demands π A R))
+demands_apt π A R ga gr = demands_each (Apt (length π)) π A R (λ γ e o q i. queries_apt π γ e q (word γ o) i)
+  where
+    word : (γ : List ℕ) → In γ A ⊎ In γ R → IsWord γ
+    word γ (inl j) = ga γ j
+    word γ (inr j) = gr γ j
 
 -- the demands are met where the inflation meets the name
 met_meets : (π : List ℕ) (A R : List (List ℕ)) (αs : List (List ℕ)) → IsWord π → AreBlocks π αs → Each (Met (Holds αs)) (demands π A R) ↔ Meets A R (inflate π αs)
