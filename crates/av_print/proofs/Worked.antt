@@ -1,8 +1,15 @@
 -- Worked values of the definitions, by computation.
-use Rattle.std.proofs.Common.{◌≡◌, ℕ, List, [], ◌∷◌, Some, codes, refl}
+use Rattle.std.proofs.Common.{◌≡◌, ℕ, List, [], ◌∷◌, ◌++◌, Some, codes, refl}
 use Rattle.std.specs.Fmt.{digits}
 use Rattle.av_decomp.specs.RootTrees.{RootTree, point, joined}
-use Rattle.av_print.specs.Text.{word_text, root_text, node_text, tree_texts, tree_text}
+use Rattle.av_sys.specs.declared.names.Sign.{Sign}
+use Rattle.av_sys.specs.declared.names.Sign.TheVariants.{C, P, M}
+use Rattle.av_sys.specs.declared.terms.Term.{Term}
+use Rattle.av_sys.specs.declared.terms.Term.TheVariants.{Point, Node}
+use Rattle.av_sys.specs.declared.terms.Equation.{Equation}
+use Rattle.av_sys.specs.declared.terms.System.{System}
+use Rattle.av_print.specs.Text.{word_text, words_text, root_text, node_text, tree_texts, tree_text}
+use Rattle.av_print.specs.Systems.{number_text, children_text, term_text, terms_text, name_text, equation_text, equations_text, counts_text, system_text}
 
 -- a root with the trees of its blocks
 abbrev node : List ℕ → List RootTree → RootTree
@@ -27,3 +34,36 @@ text_261453 = refl
 text_of_ten : root_text (2 ∷ 4 ∷ 6 ∷ 8 ∷ 10 ∷ 1 ∷ 3 ∷ 5 ∷ 7 ∷ 9 ∷ []) ≡ codes "(2,4,6,8,10,1,3,5,7,9)"
 unfolding digits word_text root_text
 text_of_ten = refl
+
+-- the equation of the words that avoid this one and meet the sign
+abbrev avoiding : Sign → List ℕ → List Term → Equation
+avoiding sign w terms = record { name = record { sign = sign; avoid = w ∷ []; require = [] }; terms = terms }
+
+-- a sum and a skew sum of words of two equations
+abbrev sum : ℕ → ℕ → Term
+sum a b = Node (1 ∷ 2 ∷ []) (a ∷ b ∷ [])
+
+abbrev skew : ℕ → ℕ → Term
+skew a b = Node (2 ∷ 1 ∷ []) (a ∷ b ∷ [])
+
+-- the system of the class that avoids 132
+abbrev system_132 : System
+system_132 = record {
+  equations = avoiding C (1 ∷ 3 ∷ 2 ∷ []) (Point ∷ sum 1 2 ∷ skew 3 0 ∷ [])
+      ∷ avoiding P (1 ∷ 3 ∷ 2 ∷ []) (Point ∷ skew 3 0 ∷ [])
+      ∷ avoiding C (2 ∷ 1 ∷ []) (Point ∷ sum 4 2 ∷ [])
+      ∷ avoiding M (1 ∷ 3 ∷ 2 ∷ []) (Point ∷ sum 1 2 ∷ [])
+      ∷ avoiding P (2 ∷ 1 ∷ []) (Point ∷ [])
+      ∷ [];
+}
+
+text_of_system_132 : system_text system_132
+    ≡ codes "system 1 equations 5 terms 10\n"
+    ++ (codes "E0 C avoid 132 require none = 1 | 12[E1,E2] | 21[E3,E0]\n"
+    ++ (codes "E1 P avoid 132 require none = 1 | 21[E3,E0]\n"
+    ++ (codes "E2 C avoid 21 require none = 1 | 12[E4,E2]\n"
+    ++ (codes "E3 M avoid 132 require none = 1 | 12[E1,E2]\n"
+    ++ (codes "E4 P avoid 21 require none = 1\n"
+    ++ codes "end\n")))))
+unfolding digits word_text words_text root_text number_text children_text term_text terms_text name_text equation_text equations_text counts_text system_text
+text_of_system_132 = refl

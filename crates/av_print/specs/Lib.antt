@@ -1,2 +1,4 @@
 pub mod Wrote
 pub mod Text
+pub mod Systems
+pub mod Laws

@@ -1,14 +1,16 @@
 //! Texts, written to a sink.
 //!
 //! Whatever has a text implements [`Text`], whose clauses say once what writing does: on `Ok` the bytes held grew by
-//! exactly the text, on an error by a prefix of it, and an error comes only where the sink's count of it rose. Texts in
+//! exactly the text, on an error by a prefix of it, and an error comes only where the sink's count of it rose or stands at its last value. Texts in
 //! turn are tuples: `(Bytes(b"basis "), words, Bytes(b"\n")).put_on(sink)`. Nothing here takes memory of its own.
 #![tactic(auto)]
 
 mod bytes;
 mod joined;
+pub mod laws;
 mod numbers;
 mod queries;
+mod systems;
 mod text;
 mod trees;
 mod turns;
@@ -18,6 +20,7 @@ pub use bytes::{Bytes, put};
 pub use joined::Joined;
 pub use numbers::{Number, put_number};
 pub use queries::put_query;
+pub use systems::put_system;
 pub use text::Text;
 pub use trees::put_tree;
 pub use words::{put_word, put_words};

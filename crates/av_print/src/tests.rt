@@ -1,7 +1,8 @@
-use crate::{Bytes, Number, Text, put, put_number, put_tree, put_word, put_words};
+use crate::{Bytes, Number, Text, put, put_number, put_system, put_tree, put_word, put_words};
 use av_decomp::tree;
 use av_io::{MemSink, Sink, SinkFault, SureSink};
 use av_perm::{Perm, Words};
+use av_sys::{Children, Equation, Equations, Name, Sign, System, Term, Terms};
 use std::alloc::Global;
 use std::test::Fail;
 
@@ -65,6 +66,103 @@ fn trees(rt: HostRuntime) -> Result<(), Fail> {
     assert_eq!(rt;
         sink.bytes(),
         &b"1\n12[21[1,1],1]\n2413[1,1,1,21[12[1,1],1]]\n(2,4,6,8,10,1,3,5,7,9)[1,1,1,1,1,1,1,1,1,1]\n"[..]
+    );
+    Ok(())
+}
+
+// The list of the word with these entries.
+fn only(alloc: Global, entries: &[u8]) -> Result<Words, Fail> {
+    let mut words = Words::empty(alloc);
+    words.push(Perm::from_entries(entries)?)?;
+    Ok(words)
+}
+
+// The term with this root and these children.
+fn node(alloc: Global, root: &[u8], numbers: &[u32]) -> Result<Term, Fail> {
+    let mut children = Children::empty(alloc);
+    for number in numbers {
+        children.push(*number)?;
+    }
+    let root = Perm::from_entries(root)?;
+    Ok(Term::Node { root, children })
+}
+
+// The equation of the words that avoid this one and meet the sign: the point, and where there are children for them a sum and
+// a skew sum.
+fn equation(
+    alloc: Global,
+    sign: Sign,
+    avoided: &[u8],
+    sum: &[u32],
+    skew: &[u32],
+) -> Result<Equation, Fail> {
+    let mut terms = Terms::empty(alloc);
+    terms.push(Term::Point)?;
+    if !sum.is_empty() {
+        terms.push(node(alloc, &[1, 2], sum)?)?;
+    }
+    if !skew.is_empty() {
+        terms.push(node(alloc, &[2, 1], skew)?)?;
+    }
+    let avoid = only(alloc, avoided)?;
+    let require = Words::empty(alloc);
+    let name = Name {
+        sign,
+        avoid,
+        require,
+    };
+    Ok(Equation { name, terms })
+}
+
+#[test]
+fn the_system_of_the_class_that_avoids_132(rt: HostRuntime) -> Result<(), Fail> {
+    let alloc = rt.alloc();
+    let mut equations = Equations::empty(alloc);
+    equations.push(equation(alloc, Sign::C, &[1, 3, 2], &[1, 2], &[3, 0])?)?;
+    equations.push(equation(alloc, Sign::P, &[1, 3, 2], &[], &[3, 0])?)?;
+    equations.push(equation(alloc, Sign::C, &[2, 1], &[4, 2], &[])?)?;
+    equations.push(equation(alloc, Sign::M, &[1, 3, 2], &[1, 2], &[])?)?;
+    equations.push(equation(alloc, Sign::P, &[2, 1], &[], &[])?)?;
+    let mut sink = SureSink::new(alloc);
+    put_system(&mut sink, &System { equations })?;
+    assert_eq!(rt;
+        sink.bytes(),
+        &b"system 1 equations 5 terms 10\nE0 C avoid 132 require none = 1 | 12[E1,E2] | 21[E3,E0]\nE1 P avoid 132 require none = 1 | 21[E3,E0]\nE2 C avoid 21 require none = 1 | 12[E4,E2]\nE3 M avoid 132 require none = 1 | 12[E1,E2]\nE4 P avoid 21 require none = 1\nend\n"[..]
+    );
+    Ok(())
+}
+
+// The equation of the words that avoid nothing, contain this one and are no skew sum, without terms.
+fn requiring(alloc: Global, required: &[u8]) -> Result<Equation, Fail> {
+    let require = only(alloc, required)?;
+    let avoid = Words::empty(alloc);
+    let name = Name {
+        sign: Sign::M,
+        avoid,
+        require,
+    };
+    Ok(Equation {
+        name,
+        terms: Terms::empty(alloc),
+    })
+}
+
+#[test]
+fn a_long_root_and_an_equation_without_terms(rt: HostRuntime) -> Result<(), Fail> {
+    let alloc = rt.alloc();
+    let mut first = equation(alloc, Sign::C, &[3, 2, 1], &[], &[])?;
+    let root = [2, 4, 6, 8, 10, 1, 3, 5, 7, 9];
+    first
+        .terms
+        .push(node(alloc, &root, &[1, 0, 1, 0, 1, 0, 1, 0, 1, 1])?)?;
+    let mut equations = Equations::empty(alloc);
+    equations.push(first)?;
+    equations.push(requiring(alloc, &[2, 4, 1, 3])?)?;
+    let mut sink = SureSink::new(alloc);
+    put_system(&mut sink, &System { equations })?;
+    assert_eq!(rt;
+        sink.bytes(),
+        &b"system 1 equations 2 terms 2\nE0 C avoid 321 require none = 1 | (2,4,6,8,10,1,3,5,7,9)[E1,E0,E1,E0,E1,E0,E1,E0,E1,E1]\nE1 M avoid none require 2413 = none\nend\n"[..]
     );
     Ok(())
 }

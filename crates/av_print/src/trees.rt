@@ -14,7 +14,7 @@ use av_perm::Perm;
 
 /// A root, whose text is that of its word, in round brackets where it has more than nine entries.
 #[derive(Clone, Copy)]
-struct Root<'a>(&'a Perm);
+pub(crate) struct Root<'a>(pub(crate) &'a Perm);
 
 impl Text for Root<'_> {
     ghost use Rattle.av_print.specs.Text.{root_text};
