@@ -22,7 +22,7 @@ use Rattle.av_decomp.proofs.DecompositionTrees.{tree_law}
 use Rattle.av_session.specs.Runs.{IsAbout}
 
 -- the words of a basis line are words
-are_words : (ws : List (List ℕ)) → All IsBasisWord ws → AreWords ws
+pub are_words : (ws : List (List ℕ)) → All IsBasisWord ws → AreWords ws
 are_words ws all i h = let b = All-get_or IsBasisWord ws i [] h all in word_from (get_or ws i []) (and_parts (is_word (get_or ws i [])) (nat_le (length (get_or ws i [])) 160) b.word).0
 
 -- of two bases that make the same class

@@ -1,7 +1,9 @@
 pub mod Takes
 pub mod Levels
-pub mod Others
+pub mod FirstOptions
+pub mod AllowedOptions
 pub mod Ends
 pub mod Abouts
 pub mod Wholes
+pub mod Systems
 mod Worked

@@ -1,5 +1,5 @@
 -- Worked values: whole texts that are due.
-use Rattle.std.proofs.Common.{◌≡◌, ℕ, List, [], ◌∷◌, Some, None, codes, refl}
+use Rattle.std.proofs.Common.{◌≡◌, [], ◌∷◌, Some, None, codes, refl}
 use Rattle.std.specs.Fmt.{digits}
 use Rattle.av_perm.specs.Lists.{choices}
 use Rattle.av_perm.specs.Word.{arrangements}
@@ -12,13 +12,8 @@ use Rattle.av_text.specs.Words.{is_comma_form, entries_of, checked_word, word_in
 use Rattle.av_text.specs.Queries.{form_named, query_with_one, query_with, query_of}
 use Rattle.av_text.specs.Read.{basis_words, basis_said, tokens_said, line_said, lines_said, read}
 use Rattle.av_print.specs.Text.{word_text, words_text, query_text}
-use Rattle.av_session.specs.Options.{options, options_in_one, options_in_two, default_options}
+use Rattle.av_session.specs.Options.{cut, set_once, choose, choose_all, options, default_options}
 use Rattle.av_session.specs.Due.{header_text, answer_text, settled_header, settled_text, unsettled_text, script_text, fault_text, text_due}
-
--- a script of one count
-counted : text_due default_options (codes "basis 132\ncount 4\n") ≡ codes "permspec 1\nbasis 132\nsimples 4:0 5:0\ngap 4\ncount 4 = 14\n"
-unfolding digits choices arrangements contains is_simple simples gap script_lines tokens is_digits is_numeral number_in is_comma_form entries_of checked_word word_in form_named query_with_one query_with query_of basis_words basis_said tokens_said line_said lines_said read word_text words_text query_text header_text answer_text settled_header settled_text unsettled_text script_text fault_text text_due
-counted = refl
 
 -- a text that is no script
 refused : text_due default_options (codes "basis 132\ncount 8\n") ≡ codes "fault 2 7\n"
@@ -26,18 +21,74 @@ unfolding digits choices arrangements contains is_simple simples gap script_line
 refused = refl
 
 -- the words of a command line
-in_one : options (codes "--max-simple=6" ∷ []) ≡ Some (record { max_simple = 6 })
-unfolding options options_in_one is_digits is_numeral number_in
-in_one = refl
+no_words : options [] ≡ Some default_options
+unfolding options choose_all choose cut set_once is_digits is_numeral number_in
+no_words = refl
 
-in_two : options (codes "--max-simple" ∷ codes "10" ∷ []) ≡ Some (record { max_simple = 10 })
-unfolding options options_in_two is_digits is_numeral number_in
-in_two = refl
+simple_in_one : options (codes "--max-simple=6" ∷ []) ≡ Some (record { max_simple = 6; max_size = 20000 })
+unfolding options choose_all choose cut set_once is_digits is_numeral number_in
+simple_in_one = refl
+
+simple_in_two : options (codes "--max-simple" ∷ codes "10" ∷ []) ≡ Some (record { max_simple = 10; max_size = 20000 })
+unfolding options choose_all choose cut set_once is_digits is_numeral number_in
+simple_in_two = refl
+
+size_in_one : options (codes "--max-size=14" ∷ []) ≡ Some (record { max_simple = 8; max_size = 14 })
+unfolding options choose_all choose cut set_once is_digits is_numeral number_in
+size_in_one = refl
+
+size_in_two : options (codes "--max-size" ∷ codes "65536" ∷ []) ≡ Some (record { max_simple = 8; max_size = 65536 })
+unfolding options choose_all choose cut set_once is_digits is_numeral number_in
+size_in_two = refl
+
+in_one_and_one : options (codes "--max-simple=5" ∷ codes "--max-size=1" ∷ []) ≡ Some (record { max_simple = 5; max_size = 1 })
+unfolding options choose_all choose cut set_once is_digits is_numeral number_in
+in_one_and_one = refl
+
+in_two_and_one : options (codes "--max-simple" ∷ codes "5" ∷ codes "--max-size=1" ∷ []) ≡ Some (record { max_simple = 5; max_size = 1 })
+unfolding options choose_all choose cut set_once is_digits is_numeral number_in
+in_two_and_one = refl
+
+in_one_and_two : options (codes "--max-size=1" ∷ codes "--max-simple" ∷ codes "5" ∷ []) ≡ Some (record { max_simple = 5; max_size = 1 })
+unfolding options choose_all choose cut set_once is_digits is_numeral number_in
+in_one_and_two = refl
+
+in_two_and_two : options (codes "--max-size" ∷ codes "1" ∷ codes "--max-simple" ∷ codes "5" ∷ []) ≡ Some (record { max_simple = 5; max_size = 1 })
+unfolding options choose_all choose cut set_once is_digits is_numeral number_in
+in_two_and_two = refl
 
 too_low : options (codes "--max-simple=4" ∷ []) ≡ None
-unfolding options options_in_one is_digits is_numeral number_in
+unfolding options choose_all choose cut set_once is_digits is_numeral number_in
 too_low = refl
 
 no_option : options (codes "--" ∷ []) ≡ None
-unfolding options options_in_one is_digits is_numeral number_in
+unfolding options choose_all choose cut set_once is_digits is_numeral number_in
 no_option = refl
+
+size_zero : options (codes "--max-size" ∷ codes "0" ∷ []) ≡ None
+unfolding options choose_all choose cut set_once is_digits is_numeral number_in
+size_zero = refl
+
+size_too_high : options (codes "--max-size" ∷ codes "65537" ∷ []) ≡ None
+unfolding options choose_all choose cut set_once is_digits is_numeral number_in
+size_too_high = refl
+
+leading_zero : options (codes "--max-size=015" ∷ []) ≡ None
+unfolding options choose_all choose cut set_once is_digits is_numeral number_in
+leading_zero = refl
+
+twice : options (codes "--max-simple" ∷ codes "8" ∷ codes "--max-simple" ∷ codes "8" ∷ []) ≡ None
+unfolding options choose_all choose cut set_once is_digits is_numeral number_in
+twice = refl
+
+no_value : options (codes "--max-size" ∷ []) ≡ None
+unfolding options choose_all choose cut set_once is_digits is_numeral number_in
+no_value = refl
+
+empty_value : options (codes "--max-size=" ∷ codes "5" ∷ []) ≡ None
+unfolding options choose_all choose cut set_once is_digits is_numeral number_in
+empty_value = refl
+
+another_word : options (codes "x" ∷ []) ≡ None
+unfolding options choose_all choose cut set_once is_digits is_numeral number_in
+another_word = refl

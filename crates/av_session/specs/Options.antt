@@ -1,44 +1,91 @@
 -- The words of the command line.
-use Rattle.std.specs.Prelude.{◌≡◌, ℕ, List, [], ◌∷◌, length, take, drop, if◌then◌else◌, Option, Some, None, Result, Ok, Err, codes}
+use Rattle.std.specs.Prelude.{◌≡◌, ℕ, ◌+◌, ◌≤◌, Bool, ◌==◌, List, [], ◌∷◌, take, drop, if◌then◌else◌, Option, Some, None, IfSome, unwrap_or, Result, Ok, Err, codes}
+use Rattle.std.specs.List.{position}
+use Rattle.std.specs.Option.{option_map, option_and_then}
+use Rattle.std.specs.Result.{result_ok}
 use Rattle.av_perm.specs.Lists.{same}
-use Rattle.av_text.specs.declared.kind.Kind.{Kind}
 use Rattle.av_text.specs.Numerals.{number_in}
+use Rattle.av_session.specs.declared.options.Chosen.{Chosen}
 use Rattle.av_session.specs.declared.options.Options.{Options}
 use Rattle.av_session.specs.declared.options.WordsError.{WordsError}
 use Rattle.av_session.specs.declared.options.WordsError.TheVariants as error
 
--- the greatest length of simple words where no option gives it
+-- the byte between a name and a value in one word
+abbrev pub is_equals : ℕ → Bool
+is_equals b = b == 61
+
+-- the name and the value of a word with `=`: what stands before the first one, and what follows it
+unfoldable pub cut : List ℕ → Option (List ℕ × List ℕ)
+cut word = option_map (λ at. (take at word, drop (at + 1) word)) (position is_equals word)
+
+-- the value of an option that may not be set yet: a numeral from low to high
+unfoldable pub set_once : ℕ → ℕ → Option ℕ → List ℕ → Option ℕ
+set_once low high None value = result_ok (number_in low high value)
+set_once low high (Some before) value = None
+
+-- `--max-simple`: from 5 to 10
+abbrev pub choose_max_simple : Chosen → List ℕ → Option Chosen
+choose_max_simple chosen value =
+    option_map (λ k. record chosen { max_simple = Some k }) (set_once 5 10 chosen.max_simple value)
+
+-- `--max-size`: from 1 to 65,536
+abbrev pub choose_max_size : Chosen → List ℕ → Option Chosen
+choose_max_size chosen value =
+    option_map (λ l. record chosen { max_size = Some l }) (set_once 1 65536 chosen.max_size value)
+
+-- what is chosen after the option of this name and value; there is no option of another name
+unfoldable pub choose : Chosen → List ℕ → List ℕ → Option Chosen
+choose chosen name value =
+    if same name (codes "--max-simple") then choose_max_simple chosen value
+    else (if same name (codes "--max-size") then choose_max_size chosen value else None)
+
+-- what is chosen after all these words: an option is a word with `=`, or else a word that is its name and a second one
+-- that is its value
+unfoldable pub choose_all : List (List ℕ) → Chosen → Option Chosen
+choose_all [] = λ chosen. Some chosen
+choose_all (word ∷ []) = λ chosen.
+    elim (cut word) [ Some named ↦ choose chosen named.0 named.1 | None ↦ None ]
+choose_all (word ∷ next ∷ words) = λ chosen.
+    elim (cut word) [
+      | Some named ↦ option_and_then (choose_all (next ∷ words)) (choose chosen named.0 named.1)
+      | None ↦ option_and_then (choose_all words) (choose chosen word next)
+    ]
+
+-- no option is set
+abbrev pub nothing_chosen : Chosen
+nothing_chosen = record { max_simple = None; max_size = None }
+
+-- the options where no word sets one
 abbrev pub default_options : Options
-default_options = record { max_simple = 8 }
+default_options = record { max_simple = 8; max_size = 20000 }
 
--- the options with this value of `--max-simple`, a numeral from 5 to 10
-abbrev pub options_by : Result ℕ Kind → Option Options
-options_by (Ok k) = Some (record { max_simple = k })
-options_by (Err fault) = None
+-- what was chosen, and the defaults of the others
+abbrev pub with_defaults : Chosen → Options
+with_defaults chosen = record {
+  max_simple = unwrap_or chosen.max_simple default_options.max_simple;
+  max_size = unwrap_or chosen.max_size default_options.max_size;
+}
 
-abbrev pub options_with : List ℕ → Option Options
-options_with value = options_by (number_in 5 10 value)
-
--- one word: `--max-simple=K`
-unfoldable pub options_in_one : List ℕ → Option Options
-options_in_one word =
-    if same (take (length (codes "--max-simple=")) word) (codes "--max-simple=")
-    then options_with (drop (length (codes "--max-simple=")) word)
-    else None
-
--- two words: `--max-simple K`
-unfoldable pub options_in_two : List ℕ → List ℕ → Option Options
-options_in_two name value = if same name (codes "--max-simple") then options_with value else None
-
--- the words of the command line are none, or one of the two forms; no others are accepted
+-- the options that the words of the command line set, in any order, each at most once; no other words are accepted
 unfoldable pub options : List (List ℕ) → Option Options
-options [] = Some default_options
-options (word ∷ []) = options_in_one word
-options (name ∷ value ∷ []) = options_in_two name value
-options (name ∷ value ∷ word ∷ words) = None
+options words = option_map with_defaults (choose_all words nothing_chosen)
+
+-- the values chosen are in their ranges
+pub record AreInRanges (chosen : Chosen) : Type 0 where
+  pub simple_low : IfSome chosen.max_simple (λ k. 5 ≤ k)
+  pub simple_high : IfSome chosen.max_simple (λ k. k ≤ 10)
+  pub size_low : IfSome chosen.max_size (λ l. 1 ≤ l)
+  pub size_high : IfSome chosen.max_size (λ l. l ≤ 65536)
 
 -- an answer is the options of the words, unless memory is wanting
 abbrev pub GivesOptions : Result Options WordsError → Option Options → Type 0
 GivesOptions (Ok options) said = said ≡ Some options
 GivesOptions (Err error.Memory) said = Unit {0}
 GivesOptions (Err error.Words) said = said ≡ None
+
+-- options within their ranges
+pub record IsAllowed (options : Options) : Type 0 where
+  pub low : 5 ≤ options.max_simple
+  pub high : options.max_simple ≤ 10
+  pub some : 1 ≤ options.max_size
+  pub few : options.max_size ≤ 65536

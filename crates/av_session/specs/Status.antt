@@ -1,8 +1,9 @@
 -- The statuses of a run: when each comes, and what the sink holds then.
-use Rattle.std.specs.Prelude.{ℕ, List, Option, Result, Ok, Err}
+use Rattle.std.specs.Prelude.{ℕ, ◌≤◌, List, Option, Result, Ok, Err}
 use Rattle.std.specs.Io.KnownBytes.{Appends, Keeps}
 use Rattle.av_perm.specs.Class.{minimal}
-use Rattle.av_perm.specs.Gap.{IsSettled, IsUnsettled}
+use Rattle.av_perm.specs.Gap.{IsSettled, IsUnsettled, simples_below}
+use Rattle.av_build.specs.Canonical.{grow, grown_size, IsTooLarge}
 use Rattle.av_text.specs.declared.script.Script.{Script}
 use Rattle.av_text.specs.Read.{Fault, read}
 use Rattle.av_print.specs.Wrote.{AppendsPart}
@@ -19,10 +20,18 @@ HoldsText status.ReadFault old new text = Keeps old new
 HoldsText status.WriteFault old new text = AppendsPart old new text
 HoldsText status.Refused old new text = Appends old new text
 HoldsText status.Unsettled old new text = Appends old new text
+HoldsText status.TooLarge old new text = Appends old new text
+
+-- the canonical system of a class with gap g is within the limit
+abbrev pub IsWithin : List (List ℕ) → ℕ → ℕ → Type 0
+IsWithin basis g limit = grown_size (grow basis (simples_below basis g) limit) ≤ limit
 
 -- the status may come where the source has this script
 abbrev pub FitsScript : Status → Options → Script → Type 0
-FitsScript status.Done options script = (g : ℕ) × IsSettled (minimal script.basis) options.max_simple g
+FitsScript status.Done options script =
+    (g : ℕ) × IsSettled (minimal script.basis) options.max_simple g × IsWithin (minimal script.basis) g options.max_size
+FitsScript status.TooLarge options script =
+    (g : ℕ) × IsSettled (minimal script.basis) options.max_simple g × IsTooLarge (minimal script.basis) (simples_below (minimal script.basis) g) options.max_size
 FitsScript status.Unsettled options script = IsUnsettled (minimal script.basis) options.max_simple
 FitsScript status.Refused options script = ⊥
 FitsScript _ options script = Unit {0}
@@ -30,6 +39,7 @@ FitsScript _ options script = Unit {0}
 -- the status may come where the source has no script
 abbrev pub FitsFault : Status → Type 0
 FitsFault status.Done = ⊥
+FitsFault status.TooLarge = ⊥
 FitsFault status.Unsettled = ⊥
 FitsFault _ = Unit {0}
 
@@ -37,13 +47,14 @@ abbrev pub FitsRead : Status → Options → Result Script Fault → Type 0
 FitsRead s options (Ok script) = FitsScript s options script
 FitsRead s options (Err fault) = FitsFault s
 
--- the status may come where the source has these bytes: Done exactly for a script of a settled class, Unsettled exactly for
--- a script of a class that isn't, Refused exactly for no script; want of memory and faults may come with any
+-- the status may come where the source has these bytes: Done exactly for a script of a settled class whose system is within
+-- the limit, TooLarge exactly for one whose system isn't, Unsettled exactly for a script of a class that isn't settled,
+-- Refused exactly for no script; want of memory and faults may come with any
 abbrev pub FitsText : Status → Options → List ℕ → Type 0
 FitsText s options bytes = FitsRead s options (read bytes)
 
--- the status is none that comes before the text is read
-abbrev pub IsAnswer : Status → Type 0
-IsAnswer status.Words = ⊥
-IsAnswer status.ReadFault = ⊥
-IsAnswer _ = Unit {0}
+-- the status may come once the text was read
+abbrev pub ComesAfterReading : Status → Type 0
+ComesAfterReading status.Words = ⊥
+ComesAfterReading status.ReadFault = ⊥
+ComesAfterReading _ = Unit {0}

@@ -1,6 +1,7 @@
 // The words of the command line.
-ghost use Rattle.std.specs.Prelude.{◌≡◌, ◌≤◌, map, string_bytes, IfOk};
-ghost use Rattle.av_session.specs.Options.{GivesOptions, options, options_with, options_in_one, options_in_two};
+ghost use Rattle.std.specs.Prelude.{◌≡◌, ℕ, ◌≤◌, ◌<◌, List, map, string_bytes, length, IfOk, IfSome, MatchOption, Some, None};
+ghost use Rattle.std.specs.List.{position};
+ghost use Rattle.av_session.specs.Options.{is_equals, cut, set_once, choose_max_simple, choose_max_size, choose, choose_all, nothing_chosen, with_defaults, options, AreInRanges, GivesOptions};
 
 use av_text::number_in;
 use std::alloc::Global;
@@ -10,6 +11,8 @@ use std::alloc::Global;
 pub struct Options {
     /// The greatest length at which simple words are searched, from 5 to 10.
     pub max_simple: usize,
+    /// The greatest size of a system, its equations and terms together, from 1 to 65,536.
+    pub max_size: usize,
 }
 
 /// Why the words of the command line aren't read.
@@ -23,59 +26,143 @@ pub enum WordsError {
     Words,
 }
 
-/// The options with this value of `--max-simple`.
-fn options_with(value: &[u8]) -> Result<Options, WordsError>
-    ensures said { GivesOptions result (options_with value.now) }
-    ensures low { IfOk result (λ options. 5 ≤ options.max_simple) }
-    ensures high { IfOk result (λ options. options.max_simple ≤ 10) }
+/// The values that were set so far.
+#[derive(Clone, Copy)]
+struct Chosen {
+    max_simple: Option<usize>,
+    max_size: Option<usize>,
+}
+
+/// Where the first `=` stands.
+fn equals_sign(word: &[u8]) -> Option<usize>
+    ensures value { result ≡ position is_equals word.now }
+    ensures within { IfSome result (λ at. at < length word.now) }
 {
-    match number_in(value, 5, 10) {
-        Ok(limit) => Ok(Options {
-            max_simple: limit as usize,
-        }),
-        Err(_) => Err(WordsError::Words),
+    word.iter().position(|b| *b == b'=')
+}
+
+/// The name and the value of a word with `=`, cut at its first one.
+#[tactic(auto, unfolding(crate::specs::Options::cut))]
+fn cut(word: &[u8]) -> Option<(&[u8], &[u8])>
+    ensures { MatchOption result (cut word.now ≡ None) (λ named. cut word.now ≡ Some (named.0.now, named.1.now)) }
+{
+    match equals_sign(word) {
+        Some(at) => Some((&word[..at], &word[at + 1..])),
+        None => None,
     }
 }
 
-/// The options of one word, `--max-simple=K`.
-#[tactic(auto, unfolding(crate::specs::Options::options_in_one))]
-fn options_in_one(word: &[u8]) -> Result<Options, WordsError>
-    ensures said { GivesOptions result (options_in_one word.now) }
-    ensures low { IfOk result (λ options. 5 ≤ options.max_simple) }
-    ensures high { IfOk result (λ options. options.max_simple ≤ 10) }
+/// The value of an option that may not be set yet, a numeral from low to high.
+#[tactic(auto, unfolding(crate::specs::Options::set_once))]
+fn set_once(low: usize, high: usize, before: Option<usize>, value: &[u8]) -> Option<usize>
+    ensures said { result ≡ set_once low high before value.now }
+    ensures low { IfSome result (λ n. low ≤ n) }
+    ensures high { IfSome result (λ n. n ≤ high) }
 {
-    match word.strip_prefix(b"--max-simple=") {
-        Some(value) => options_with(value),
-        None => Err(WordsError::Words),
+    match before {
+        None => match number_in(value, low as u128, high as u128) {
+            Ok(number) => Some(number as usize),
+            Err(_) => None,
+        },
+        Some(_) => None,
     }
 }
 
-/// The options of two words, `--max-simple K`.
-#[tactic(auto, unfolding(crate::specs::Options::options_in_two))]
-fn options_in_two(name: &[u8], value: &[u8]) -> Result<Options, WordsError>
-    ensures said { GivesOptions result (options_in_two name.now value.now) }
-    ensures low { IfOk result (λ options. 5 ≤ options.max_simple) }
-    ensures high { IfOk result (λ options. options.max_simple ≤ 10) }
+/// Sets `--max-simple`.
+fn choose_max_simple(chosen: Chosen, value: &[u8]) -> Option<Chosen>
+    requires { AreInRanges chosen }
+    ensures said { result ≡ choose_max_simple chosen value.now }
+    ensures ranges { IfSome result AreInRanges }
+{
+    let limit = set_once(5, 10, chosen.max_simple, value)?;
+    Some(Chosen {
+        max_simple: Some(limit),
+        ..chosen
+    })
+}
+
+/// Sets `--max-size`.
+fn choose_max_size(chosen: Chosen, value: &[u8]) -> Option<Chosen>
+    requires { AreInRanges chosen }
+    ensures said { result ≡ choose_max_size chosen value.now }
+    ensures ranges { IfSome result AreInRanges }
+{
+    let limit = set_once(1, 65536, chosen.max_size, value)?;
+    Some(Chosen {
+        max_size: Some(limit),
+        ..chosen
+    })
+}
+
+/// What is chosen after the option of this name and value.
+#[tactic(auto, unfolding(crate::specs::Options::choose))]
+fn choose(chosen: Chosen, name: &[u8], value: &[u8]) -> Option<Chosen>
+    requires { AreInRanges chosen }
+    ensures said { result ≡ choose chosen name.now value.now }
+    ensures ranges { IfSome result AreInRanges }
 {
     if name == b"--max-simple".as_slice() {
-        options_with(value)
+        choose_max_simple(chosen, value)
+    } else if name == b"--max-size".as_slice() {
+        choose_max_size(chosen, value)
     } else {
-        Err(WordsError::Words)
+        None
     }
 }
 
-/// What the words of the command line set: none, `--max-simple K` or `--max-simple=K`, with K a numeral from 5 to 10, by
-/// default 8. `Words` comes exactly where they are no such words.
+/// What is chosen after all these words. Each option can be set once, so no more calls follow one another than there are
+/// options, and one.
+fn choose_all(chosen: Chosen, words: &[String]) -> Option<Chosen>
+    requires { AreInRanges chosen }
+    ensures said { result ≡ choose_all (map string_bytes words.now) chosen }
+    ensures ranges { IfSome result AreInRanges }
+{
+    match words {
+        [] => Some(chosen),
+        [word, rest @ ..] => match cut(word.as_bytes()) {
+            Some((name, value)) => choose_all(choose(chosen, name, value)?, rest),
+            None => match rest {
+                [] => None,
+                [value, rest @ ..] => {
+                    choose_all(choose(chosen, word.as_bytes(), value.as_bytes())?, rest)
+                }
+            },
+        },
+    }
+}
+
+/// What was chosen, and the defaults of the others.
+fn with_defaults(chosen: Chosen) -> Options
+    requires { AreInRanges chosen }
+    ensures said { result ≡ with_defaults chosen }
+    ensures low { 5 ≤ result.max_simple }
+    ensures high { result.max_simple ≤ 10 }
+    ensures size_low { 1 ≤ result.max_size }
+    ensures size_high { result.max_size ≤ 65536 }
+{
+    Options {
+        max_simple: chosen.max_simple.unwrap_or(8),
+        max_size: chosen.max_size.unwrap_or(20000),
+    }
+}
+
+/// What the words of the command line set: `--max-simple K`, with K a numeral from 5 to 10, by default 8, and
+/// `--max-size L`, with L a numeral from 1 to 65536, by default 20000. The options come in any order, each at most once,
+/// and each may be one word, as `--max-simple=K`. `Words` comes exactly where they are no such words.
 #[tactic(auto, unfolding(crate::specs::Options::options))]
 pub fn read_words(_alloc: Global, words: &[String]) -> Result<Options, WordsError>
     ensures said { GivesOptions result (options (map string_bytes words.now)) }
     ensures low { IfOk result (λ options. 5 ≤ options.max_simple) }
     ensures high { IfOk result (λ options. options.max_simple ≤ 10) }
+    ensures size_low { IfOk result (λ options. 1 ≤ options.max_size) }
+    ensures size_high { IfOk result (λ options. options.max_size ≤ 65536) }
 {
-    match words {
-        [] => Ok(Options { max_simple: 8 }),
-        [word] => options_in_one(word.as_bytes()),
-        [name, value] => options_in_two(name.as_bytes(), value.as_bytes()),
-        _ => Err(WordsError::Words),
+    let nothing = Chosen {
+        max_simple: None,
+        max_size: None,
+    };
+    match choose_all(nothing, words) {
+        Some(chosen) => Ok(with_defaults(chosen)),
+        None => Err(WordsError::Words),
     }
 }

@@ -17,4 +17,6 @@ pub enum Status {
     Refused = 5,
     /// The class isn't settled up to the limit. The header and the limit were written.
     Unsettled = 6,
+    /// The canonical system is larger than the limit. The header and the limit were written.
+    TooLarge = 7,
 }

@@ -1,5 +1,5 @@
 // Whole runs, with sources and sinks in memory: what is written, and how the run ends.
-use crate::{Status, run};
+use crate::{Options, Status, read_words, run};
 use av_io::{MemSink, MemSource, SureSink, SureSource};
 use av_match::minimal;
 use av_perm::{Memory, NotPerm, Perm, Words, is_simple};
@@ -10,7 +10,19 @@ use std::test::Fail;
 
 const CATALAN: &[u8] = b"basis 132\ncount 7\n";
 
-const CATALAN_ANSWER: &[u8] = b"permspec 1\nbasis 132\nsimples 4:0 5:0\ngap 4\ncount 7 = 429\n";
+const CATALAN_ANSWER: &[u8] = b"permspec 1
+basis 132
+simples 4:0 5:0
+gap 4
+system 1 equations 5 terms 10
+E0 C avoid 132 require none = 1 | 12[E1,E2] | 21[E3,E0]
+E1 P avoid 132 require none = 1 | 21[E3,E0]
+E2 C avoid 21 require none = 1 | 12[E4,E2]
+E3 M avoid 132 require none = 1 | 12[E1,E2]
+E4 P avoid 21 require none = 1
+end
+count 7 = 429
+";
 
 // The words of a command line.
 fn command_line(alloc: Global, texts: &[&str]) -> Result<Vec<String>, AllocError> {
@@ -38,26 +50,85 @@ fn run_script(alloc: Global, options: &[&str], script: &[u8]) -> Result<Ended, A
     Ok(Ended { status, held })
 }
 
-static ANSWERED: [(&str, Status, &str); 8] = [
+static ANSWERED: [(&str, Status, &str); 9] = [
     (
-        "basis 132\r\n\r\n# Catalan\r\ncount 7",
+        "basis 132\r\n\r\n# Catalan\r\ncount 3",
         Status::Done,
-        "permspec 1\nbasis 132\nsimples 4:0 5:0\ngap 4\ncount 7 = 429\n",
+        "permspec 1
+basis 132
+simples 4:0 5:0
+gap 4
+system 1 equations 5 terms 10
+E0 C avoid 132 require none = 1 | 12[E1,E2] | 21[E3,E0]
+E1 P avoid 132 require none = 1 | 21[E3,E0]
+E2 C avoid 21 require none = 1 | 12[E4,E2]
+E3 M avoid 132 require none = 1 | 12[E1,E2]
+E4 P avoid 21 require none = 1
+end
+count 3 = 5
+",
     ),
     (
-        "basis 2413 3142\ncount 1\ncount 4\ncount 7\n",
+        "basis 2143 2413 3142\ncount 1\n",
         Status::Done,
-        "permspec 1\nbasis 2413 3142\nsimples 4:0 5:0\ngap 4\ncount 1 = 1\ncount 4 = 22\ncount 7 = 1806\n",
+        "permspec 1
+basis 2143 2413 3142
+simples 4:0 5:0
+gap 4
+system 1 equations 5 terms 11
+E0 C avoid 2143 2413 3142 require none = 1 | 12[E1,E0] | 12[E2,E3] | 21[E4,E0]
+E1 P avoid 21 require none = 1
+E2 P avoid 2143 2413 3142 require 21 = 21[E4,E0]
+E3 C avoid 21 require none = 1 | 12[E1,E3]
+E4 M avoid 2143 2413 3142 require none = 1 | 12[E1,E0] | 12[E2,E3]
+end
+count 1 = 1
+",
     ),
     (
-        "basis 12 12 132\ncount 5\n",
+        "basis 123 132\ncount 1\n",
         Status::Done,
-        "permspec 1\nbasis 12\nsimples 4:0 5:0\ngap 4\ncount 5 = 1\n",
+        "permspec 1
+basis 123 132
+simples 4:0 5:0
+gap 4
+system 1 equations 6 terms 11
+E0 C avoid 123 132 require none = 1 | 12[E1,E2] | 21[E3,E0]
+E1 P avoid 12 require none = 1 | 21[E4,E5]
+E2 C avoid 12 21 require none = 1
+E3 M avoid 123 132 require none = 1 | 12[E1,E2]
+E4 M avoid 12 require none = 1
+E5 C avoid 12 require none = 1 | 21[E4,E5]
+end
+count 1 = 1
+",
     ),
     (
         "basis 1\ncount 1\n",
         Status::Done,
-        "permspec 1\nbasis 1\nsimples 4:0 5:0\ngap 4\ncount 1 = 0\n",
+        "permspec 1
+basis 1
+simples 4:0 5:0
+gap 4
+system 1 equations 1 terms 0
+E0 C avoid 1 require none = none
+end
+count 1 = 0
+",
+    ),
+    (
+        "basis 12 12 132\ncount 1\n",
+        Status::Done,
+        "permspec 1
+basis 12
+simples 4:0 5:0
+gap 4
+system 1 equations 2 terms 3
+E0 C avoid 12 require none = 1 | 21[E1,E0]
+E1 M avoid 12 require none = 1
+end
+count 1 = 1
+",
     ),
     (
         "basis\n",
@@ -65,9 +136,19 @@ static ANSWERED: [(&str, Status, &str); 8] = [
         "permspec 1\nbasis none\nsimples 4:2 5:6 6:46 7:338 8:2926\nunsettled 8\n",
     ),
     (
-        "basis 132\ntree 213\ntree 2,6,1,4,5,3\n",
+        "basis 12\ntree 213\ntree 2,6,1,4,5,3\n",
         Status::Done,
-        "permspec 1\nbasis 132\nsimples 4:0 5:0\ngap 4\ntree 213 = 12[21[1,1],1]\ntree 261453 = 2413[1,1,1,21[12[1,1],1]]\n",
+        "permspec 1
+basis 12
+simples 4:0 5:0
+gap 4
+system 1 equations 2 terms 3
+E0 C avoid 12 require none = 1 | 21[E1,E0]
+E1 M avoid 12 require none = 1
+end
+tree 213 = 12[21[1,1],1]
+tree 261453 = 2413[1,1,1,21[12[1,1],1]]
+",
     ),
     ("basis 132\ncount 8\n", Status::Refused, "fault 2 7\n"),
     ("", Status::Refused, "fault 0 1\n"),
@@ -84,16 +165,33 @@ fn scripts_are_answered(rt: HostRuntime) -> Result<(), Fail> {
 }
 
 // The ten words of which the class has gap 5, and two simple words of length 4.
-const TEN: &[u8] = b"basis 24153 25314 31524 35142 41352 42513 246135 362514 415263 531642\n";
+const TEN: &[u8] =
+    b"basis 24153 25314 31524 35142 41352 42513 246135 362514 415263 531642\ncount 1\n";
 
 // The six simple words of length 5.
 const SIX: &[u8] = b"basis 24153 25314 31524 35142 41352 42513\n";
 
+// Its text with simple words up to length 6.
+const TEN_ANSWER: &[u8] = b"permspec 1
+basis 24153 25314 31524 35142 41352 42513 246135 362514 415263 531642
+simples 4:2 5:0 6:0
+gap 5
+system 1 equations 3 terms 13
+E0 C avoid 24153 25314 31524 35142 41352 42513 246135 362514 415263 531642 require none = 1 | 12[E1,E0] | 21[E2,E0] | 2413[E0,E0,E0,E0] | 3142[E0,E0,E0,E0]
+E1 P avoid 24153 25314 31524 35142 41352 42513 246135 362514 415263 531642 require none = 1 | 21[E2,E0] | 2413[E0,E0,E0,E0] | 3142[E0,E0,E0,E0]
+E2 M avoid 24153 25314 31524 35142 41352 42513 246135 362514 415263 531642 require none = 1 | 12[E1,E0] | 2413[E0,E0,E0,E0] | 3142[E0,E0,E0,E0]
+end
+count 1 = 1
+";
+
 #[test]
-fn the_limit_decides(rt: HostRuntime) -> Result<(), Fail> {
-    let settled = run_script(rt.alloc(), &["--max-simple", "6"], TEN)?;
-    assert!(rt; settled.status == Status::Done);
-    assert!(rt; settled.held.ends_with(b"simples 4:2 5:0 6:0\ngap 5\n"));
+fn the_limit_of_lengths_decides(rt: HostRuntime) -> Result<(), Fail> {
+    let options: [&[&str]; 2] = [&[], &["--max-simple", "6"]];
+    for words in &options {
+        let settled = run_script(rt.alloc(), words, TEN)?;
+        assert!(rt; settled.status == Status::Done, "{words:?}");
+        assert!(rt; settled.held.as_slice() == TEN_ANSWER, "{words:?}");
+    }
     let unsettled = run_script(rt.alloc(), &["--max-simple=5"], TEN)?;
     assert!(rt; unsettled.status == Status::Unsettled);
     assert!(rt; unsettled.held.ends_with(b"simples 4:2 5:0\nunsettled 5\n"));
@@ -108,16 +206,72 @@ fn the_limit_decides(rt: HostRuntime) -> Result<(), Fail> {
     Ok(())
 }
 
+// The system of 15 equations and terms is within 15, and too large for 14.
+#[test]
+fn the_limit_of_sizes_decides(rt: HostRuntime) -> Result<(), Fail> {
+    let within = run_script(rt.alloc(), &["--max-size", "15"], CATALAN)?;
+    assert!(rt; within.status == Status::Done);
+    assert!(rt; within.held.as_slice() == CATALAN_ANSWER);
+    let beyond = run_script(rt.alloc(), &["--max-size=14"], CATALAN)?;
+    assert!(rt; beyond.status == Status::TooLarge);
+    assert!(rt;
+        beyond.held.as_slice()
+            == b"permspec 1\nbasis 132\nsimples 4:0 5:0\ngap 4\ntoo large 14\n".as_slice()
+    );
+    Ok(())
+}
+
+// A script of 65,536 bytes is read whole, and one byte more is too much.
+#[test]
+fn the_longest_script(rt: HostRuntime) -> Result<(), Fail> {
+    let mut script = Vec::from_slice(rt.alloc(), b"basis 132\n#")?;
+    script.extend_from_slice(&[b'x'; 65_525])?;
+    let longest = run_script(rt.alloc(), &[], &script)?;
+    assert!(rt; longest.status == Status::Done);
+    assert!(rt; longest.held.as_slice() == &CATALAN_ANSWER[..CATALAN_ANSWER.len() - 14]);
+    script.push(b'x')?;
+    let longer = run_script(rt.alloc(), &[], &script)?;
+    assert!(rt; longer.status == Status::Refused);
+    assert!(rt; longer.held.as_slice() == b"fault 0 8\n".as_slice());
+    Ok(())
+}
+
+// The separable permutations, by the numbers of Schroeder.
+#[test]
+fn counts_of_the_separable_permutations(rt: HostRuntime) -> Result<(), Fail> {
+    let script = b"basis 2413 3142\ncount 1\ncount 4\ncount 7\n";
+    let ended = run_script(rt.alloc(), &[], script)?;
+    assert!(rt; ended.status == Status::Done);
+    assert!(rt;
+        ended
+            .held
+            .ends_with(b"count 1 = 1\ncount 4 = 22\ncount 7 = 1806\n")
+    );
+    Ok(())
+}
+
 #[test]
 fn other_words_are_refused(rt: HostRuntime) -> Result<(), Fail> {
-    let refused: [&[&str]; 8] = [
+    let refused: [&[&str]; 20] = [
         &["--max-simple", "4"],
         &["--max-simple", "11"],
         &["--max-simple=08"],
         &["--max-simple"],
         &["--max-simple", "8", "--max-simple", "8"],
+        &["--max-simple=8", "--max-size=9", "--max-simple=8"],
         &["--max-simples=8"],
+        &["--max-size", "0"],
+        &["--max-size", "65537"],
+        &["--max-size=015"],
+        &["--max-size"],
+        &["--max-simple=8", "--max-size"],
+        &["--max-size="],
+        &["--max-size=", "5"],
+        &["--max-size= 5"],
+        &["--max-size==5"],
+        &["--max-size", "--max-simple=8"],
         &["--"],
+        &["--", "--max-simple=8"],
         &["x"],
     ];
     for words in &refused {
@@ -125,6 +279,28 @@ fn other_words_are_refused(rt: HostRuntime) -> Result<(), Fail> {
         assert!(rt; ended.status == Status::Words, "{words:?}");
         assert!(rt; ended.held.is_empty(), "{words:?}");
     }
+    Ok(())
+}
+
+#[test]
+fn both_options_are_accepted(rt: HostRuntime) -> Result<(), Fail> {
+    let accepted: [&[&str]; 5] = [
+        &["--max-size=14"],
+        &["--max-simple", "5", "--max-size", "65536"],
+        &["--max-size", "1", "--max-simple=10"],
+        &["--max-size=1", "--max-simple", "10"],
+        &["--max-simple=5", "--max-size=20000"],
+    ];
+    for texts in &accepted {
+        let words = command_line(rt.alloc(), texts)?;
+        assert!(rt; read_words(rt.alloc(), &words).is_ok(), "{texts:?}");
+    }
+    let words = command_line(rt.alloc(), &["--max-size", "14", "--max-simple=6"])?;
+    let wanted = Options {
+        max_simple: 6,
+        max_size: 14,
+    };
+    assert!(rt; read_words(rt.alloc(), &words) == Ok(wanted));
     Ok(())
 }
 
@@ -158,7 +334,7 @@ fn a_sink_that_fails_holds_a_prefix(rt: HostRuntime) -> Result<(), Fail> {
 
 // A script that asks for the tree of the word n, .., 2, 1, and its text.
 fn falling(alloc: Global, n: u8) -> Result<Vec<u8>, AllocError> {
-    let mut script = Vec::from_slice(alloc, b"basis 132\ntree ")?;
+    let mut script = Vec::from_slice(alloc, b"basis 1\ntree ")?;
     for k in 0..n {
         let entry = n - k;
         script.extend_from_slice(format!(in alloc; "{entry}")?.as_bytes())?;
@@ -173,8 +349,8 @@ fn a_tree_of_depth_159(rt: HostRuntime) -> Result<(), Fail> {
     let script = falling(rt.alloc(), 160)?;
     let ended = run_script(rt.alloc(), &[], &script)?;
     assert!(rt; ended.status == Status::Done);
-    // 43 bytes of header, the word of 531, and 955 of the tree: 158 times `21[1,` and `]` round `21[1,1]`.
-    assert_eq!(rt; ended.held.len(), 43 + 5 + 531 + 3 + 955 + 1);
+    // 41 bytes of header, 66 of the system, the word of 531, and 955 of the tree: 158 times `21[1,` and `]` round `21[1,1]`.
+    assert_eq!(rt; ended.held.len(), 41 + 66 + 5 + 531 + 3 + 955 + 1);
     assert!(rt; ended.held.ends_with(b"]]]]\n"));
     Ok(())
 }

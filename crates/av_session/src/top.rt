@@ -4,11 +4,11 @@ ghost use Rattle.std.specs.Io.KnownBytes.{Keeps};
 ghost use Rattle.av_io.specs.Causes.{Rose};
 ghost use Rattle.av_text.specs.Read.{read};
 ghost use Rattle.av_text.specs.declared.script.Script.{Script};
-ghost use Rattle.av_session.specs.Options.{options};
+ghost use Rattle.av_session.specs.Options.{options, IsAllowed};
 ghost use Rattle.av_session.specs.Taken.{TakesUpTo};
 ghost use Rattle.av_session.specs.Status.{HoldsText, FitsText};
 ghost use Rattle.av_session.specs.Due.{text_due};
-ghost use Rattle.av_session.specs.Runs.{due, Fits, ReadsWhole, IsComplete, IsAbout};
+ghost use Rattle.av_session.specs.Runs.{due, Fits, ReadsWhole, IsComplete, IsAbout, WritesSystem};
 
 use crate::options::{Options, WordsError, read_words};
 use crate::reading::{ReadError, read_all};
@@ -24,8 +24,7 @@ fn run_with<S: Source, K: Sink>(
     source: &mut S,
     sink: &mut K,
 ) -> Status
-    requires low { 5 ≤ options.now.max_simple }
-    requires high { options.now.max_simple ≤ 10 }
+    requires { IsAllowed options.now }
     ensures not_words { result ≡ Status.Words → ⊥ }
     ensures read_fault { result ≡ Status.ReadFault → Rose (S.faults source.old) (S.faults source.new) }
     ensures write_fault { result ≡ Status.WriteFault → Rose (K.faults sink.old) (K.faults sink.new) }
@@ -48,7 +47,10 @@ fn run_with<S: Source, K: Sink>(
 ///
 /// The text due is a function of the words and of all the bytes of the source, however its reads cut them. Each status
 /// other than `Memory` has its cause: the words (`Words`), a count of faults that rose in this call or stands at its
-/// last value (`ReadFault`, `WriteFault`), the bytes (`Refused`, `Unsettled`). `Memory` is free.
+/// last value (`ReadFault`, `WriteFault`), the bytes (`Refused`, `Unsettled`, `TooLarge`). `Memory` is free.
+///
+/// Where the text due has a system, the values of its derivation trees of each size up to one above the gap are exactly the
+/// permutations of that length that avoid the basis, each once (`exact`).
 pub fn run<S: Source, K: Sink>(
     alloc: Global,
     words: &[String],
@@ -75,6 +77,7 @@ pub fn run<S: Source, K: Sink>(
 
     // What the text says, in the words of the textbook.
     ensures about { (bytes : List ℕ) (script : Script) → read bytes ≡ Ok script → IsAbout script }
+    ensures exact { WritesSystem (map string_bytes words.now) }
 {
     match read_words(alloc, words) {
         Ok(options) => run_with(alloc, &options, source, sink),

@@ -1,6 +1,7 @@
 -- The words of the command line set the options, and each script is about its basis.
 use Rattle.std.proofs.Common.{sym}
 use Rattle.av_session.proofs.Abouts.{about}
+use Rattle.av_session.proofs.Systems.{writes_system}
 use Rattle.av_session.proofs.Wholes.{due_text, due_fits, no_options_fits, memory_fits_all, complete_by}
 use Rattle.av_session.proofs.top.run.Goals as goal
 
@@ -29,3 +30,12 @@ pub returns-in-Ok-clause-complete : goal.returns-in-Ok-clause-complete
 returns-in-Ok-clause-complete g c =
     complete_by c.run_with.result _ _ _ _ (λ e. absurd (c.run_with.ensures.not_words e)) c.run_with.ensures.read_fault c.run_with.ensures.write_fault
     (due_fits _ c.in-Ok.options c.run_with.result _ (sym c.in-Ok.ensures.said) c.run_with.ensures.fits)
+
+pub returns-in-Ok-clause-exact : goal.returns-in-Ok-clause-exact
+returns-in-Ok-clause-exact g c = writes_system _
+
+pub returns-in-Err-Words-clause-exact : goal.returns-in-Err-Words-clause-exact
+returns-in-Err-Words-clause-exact g c = writes_system _
+
+pub returns-in-Err-Memory-clause-exact : goal.returns-in-Err-Memory-clause-exact
+returns-in-Err-Memory-clause-exact g c = writes_system _

@@ -1,0 +1,101 @@
+-- The options that words set are within their ranges.
+use Rattle.std.proofs.Common.{◌≡◌, ℕ, ◌≤◌, List, [], ◌∷◌, Bool, true, false, ◌&&◌, nat_le, Option, Some, None, IfSome, unwrap_or, Ok, Err, codes, refl, subst, arith, if◌then◌else◌}
+use Rattle.std.specs.Option.{option_map, option_and_then}
+use Rattle.std.specs.Result.{result_ok}
+use Rattle.std.specs.Str.Parse.{digits_value}
+use Rattle.std.proofs.lemmas.Bool.{and_parts, leb-true}
+use Rattle.av_perm.specs.Lists.{same}
+use Rattle.av_text.specs.declared.kind.Kind.TheVariants.{BadNumber, Range}
+use Rattle.av_text.specs.Numerals.{is_numeral, number_in}
+use Rattle.av_session.specs.declared.options.Chosen.{Chosen}
+use Rattle.av_session.specs.declared.options.Options.{Options}
+use Rattle.av_session.specs.Options.{cut, set_once, choose_max_simple, choose_max_size, choose, choose_all, nothing_chosen, with_defaults, options, AreInRanges, IsAllowed}
+use Rattle.av_session.proofs.FirstOptions.{one_word_first, two_words_first, name_alone_first}
+
+-- a numeral in a range is in the range
+number_within : (low high : ℕ) (value : List ℕ) → IfSome (result_ok (number_in low high value)) (λ n. (low ≤ n) × (n ≤ high))
+unfolding number_in
+number_within low high value = by (is_numeral value) (nat_le low (digits_value 10 value) && nat_le (digits_value 10 value) high) refl
+  where
+    by : (numeral within : Bool) → (nat_le low (digits_value 10 value) && nat_le (digits_value 10 value) high) ≡ within
+        → IfSome (result_ok (if numeral then (if within then Ok (digits_value 10 value) else Err Range) else Err BadNumber)) (λ n. (low ≤ n) × (n ≤ high))
+    by true true e = let p = and_parts (nat_le low (digits_value 10 value)) (nat_le (digits_value 10 value) high) e in (leb-true low (digits_value 10 value) p.0, leb-true (digits_value 10 value) high p.1)
+    by true false e = tt
+    by false within e = tt
+
+-- so is a value that may be set
+set_within : (low high : ℕ) (before : Option ℕ) (value : List ℕ) → IfSome (set_once low high before value) (λ n. (low ≤ n) × (n ≤ high))
+unfolding set_once
+set_within low high None value = number_within low high value
+set_within low high (Some k) value = tt
+
+-- an option that is set keeps the ranges
+simple_within : (chosen : Chosen) (value : List ℕ) → AreInRanges chosen → IfSome (choose_max_simple chosen value) AreInRanges
+simple_within chosen value h = by (set_once 5 10 chosen.max_simple value) (set_within 5 10 chosen.max_simple value)
+  where
+    by : (o : Option ℕ) → IfSome o (λ n. (5 ≤ n) × (n ≤ 10)) → IfSome (option_map (λ k. record chosen { max_simple = Some k }) o) AreInRanges
+    by None i = tt
+    by (Some k) i = record { simple_low = i.0; simple_high = i.1; size_low = h.size_low; size_high = h.size_high }
+
+size_within : (chosen : Chosen) (value : List ℕ) → AreInRanges chosen → IfSome (choose_max_size chosen value) AreInRanges
+size_within chosen value h = by (set_once 1 65536 chosen.max_size value) (set_within 1 65536 chosen.max_size value)
+  where
+    by : (o : Option ℕ) → IfSome o (λ n. (1 ≤ n) × (n ≤ 65536)) → IfSome (option_map (λ l. record chosen { max_size = Some l }) o) AreInRanges
+    by None i = tt
+    by (Some l) i = record { simple_low = h.simple_low; simple_high = h.simple_high; size_low = i.0; size_high = i.1 }
+
+-- an option of any name does
+choose_within : (chosen : Chosen) (name value : List ℕ) → AreInRanges chosen → IfSome (choose chosen name value) AreInRanges
+unfolding choose
+choose_within chosen name value h = by (same name (codes "--max-simple")) (same name (codes "--max-size"))
+  where
+    by : (b c : Bool) → IfSome (if b then choose_max_simple chosen value else (if c then choose_max_size chosen value else None)) AreInRanges
+    by true c = simple_within chosen value h
+    by false true = size_within chosen value h
+    by false false = tt
+
+-- one step after another does
+then_within : (f : Chosen → Option Chosen) (o : Option Chosen) → IfSome o AreInRanges → ((c : Chosen) → AreInRanges c → IfSome (f c) AreInRanges) → IfSome (option_and_then f o) AreInRanges
+then_within f None h g = tt
+then_within f (Some c) h g = g c h
+
+-- all words do
+all_within : (words : List (List ℕ)) (chosen : Chosen) → AreInRanges chosen → IfSome (choose_all words chosen) AreInRanges
+unfolding choose_all
+all_within [] chosen h = h
+all_within (word ∷ []) chosen h = by (cut word) refl
+  where
+    by : (o : Option (List ℕ × List ℕ)) → cut word ≡ o → IfSome (choose_all (word ∷ []) chosen) AreInRanges
+    by None e = subst (λ o. IfSome o AreInRanges) (name_alone_first word chosen e) tt
+    by (Some p) e = subst (λ o. IfSome o AreInRanges) (one_word_first word p.0 p.1 [] chosen e) (then_within (choose_all []) (choose chosen p.0 p.1) (choose_within chosen p.0 p.1 h) (λ c k. k))
+all_within (word ∷ next ∷ words) chosen h = by (cut word) refl (all_within (next ∷ words)) (all_within words)
+  where
+    by : (o : Option (List ℕ × List ℕ)) → cut word ≡ o → ((c : Chosen) → AreInRanges c → IfSome (choose_all (next ∷ words) c) AreInRanges) → ((c : Chosen) → AreInRanges c → IfSome (choose_all words c) AreInRanges)
+        → IfSome (choose_all (word ∷ next ∷ words) chosen) AreInRanges
+    by None e f g = subst (λ o. IfSome o AreInRanges) (two_words_first word next words chosen e) (then_within (choose_all words) (choose chosen word next) (choose_within chosen word next h) g)
+    by (Some p) e f g = subst (λ o. IfSome o AreInRanges) (one_word_first word p.0 p.1 (next ∷ words) chosen e) (then_within (choose_all (next ∷ words)) (choose chosen p.0 p.1) (choose_within chosen p.0 p.1 h) f)
+
+-- a bound of a value and of its default
+default_low : (low d : ℕ) (o : Option ℕ) → low ≤ d → IfSome o (λ k. low ≤ k) → low ≤ unwrap_or o d
+default_low low d None h i = h
+default_low low d (Some k) h i = i
+
+default_high : (high d : ℕ) (o : Option ℕ) → d ≤ high → IfSome o (λ k. k ≤ high) → unwrap_or o d ≤ high
+default_high high d None h i = h
+default_high high d (Some k) h i = i
+
+-- so the options do
+pub options_allowed : (words : List (List ℕ)) (o : Options) → options words ≡ Some o → IsAllowed o
+unfolding options
+options_allowed words o e = by (choose_all words nothing_chosen) (all_within words nothing_chosen (record { simple_low = tt; simple_high = tt; size_low = tt; size_high = tt })) e
+  where
+    by : (c : Option Chosen) → IfSome c AreInRanges → option_map with_defaults c ≡ Some o → IsAllowed o
+    by None h e = absurd (let f : None ≡ Some o = e in cc)
+    by (Some c) h e =
+        let same : with_defaults c ≡ o = (let f : Some (with_defaults c) ≡ Some o = e in cc) in
+        subst IsAllowed same (record {
+          low = default_low 5 8 c.max_simple (omega arith) h.simple_low;
+          high = default_high 10 8 c.max_simple (omega arith) h.simple_high;
+          some = default_low 1 20000 c.max_size (omega arith) h.size_low;
+          few = default_high 65536 20000 c.max_size (omega arith) h.size_high;
+        })
