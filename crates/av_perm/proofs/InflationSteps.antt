@@ -6,6 +6,7 @@ use Rattle.av_perm.specs.Relations.{at, block, raised, inflate, joined, below}
 use Rattle.av_perm.specs.Word.{is_perm}
 use Rattle.av_perm.proofs.Inflations.{below_window, lengths, lengths_sum, length_inflate, inflation_word}
 use Rattle.av_perm.proofs.PermWords.{perm_to, perm_word}
+use Rattle.av_perm.specs.declared.limits.TheConstants.{MAX_LENGTH}
 
 -- one more list at the end
 pub joined_more : {A : Type 0} (n : ℕ) (F : ℕ → List A) → joined F n ++ F n ≡ joined F (suc n)
@@ -60,7 +61,7 @@ block_is αs i a h e = e ∙ get_or_default αs i a [] h
 
 -- the inflation of a word of the type by such words is one, where it is short enough
 pub inflation_perm : (π : List ℕ) (αs : List (List ℕ)) → is_perm π ≡ true → length αs ≡ length π → ((i : ℕ) → i < length π → is_perm (block αs i) ≡ true)
-    → sum_by length αs ≤ 160 → is_perm (inflate π αs) ≡ true
+    → sum_by length αs ≤ MAX_LENGTH → is_perm (inflate π αs) ≡ true
 inflation_perm π αs root count words few =
     perm_to (inflate π αs)
     (inflation_word π αs (perm_word π root)

@@ -32,4 +32,6 @@ pub mod GeneratedLists
 pub mod Parts
 pub mod Gaps
 pub mod InflationSteps
+pub mod StatCounts
+pub mod StatLists
 mod Worked

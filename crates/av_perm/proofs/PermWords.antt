@@ -12,23 +12,24 @@ use Rattle.av_perm.specs.Relations.{IsWord}
 use Rattle.av_perm.proofs.NoRepeats.{IsApart, apart_from_once, once_counting}
 use Rattle.av_perm.proofs.RisingLists.{length_counting, counting_at}
 use Rattle.av_perm.proofs.WordTests.{distinct_once, word_from, word_to}
+use Rattle.av_perm.specs.declared.limits.TheConstants.{MAX_LENGTH}
 
 -- the test of the type, as a relation
-pub perm_to : (w : List ℕ) → IsWord w → length w ≤ 160 → is_perm w ≡ true
-perm_to w word short = and_from (is_word w) (nat_le (length w) 160) (word_to w word) (le-leb (length w) 160 short)
+pub perm_to : (w : List ℕ) → IsWord w → length w ≤ MAX_LENGTH → is_perm w ≡ true
+perm_to w word short = and_from (is_word w) (nat_le (length w) MAX_LENGTH) (word_to w word) (le-leb (length w) MAX_LENGTH short)
 
 pub perm_word : (w : List ℕ) → is_perm w ≡ true → IsWord w
-perm_word w e = word_from w (and_parts (is_word w) (nat_le (length w) 160) e).0
+perm_word w e = word_from w (and_parts (is_word w) (nat_le (length w) MAX_LENGTH) e).0
 
-pub perm_short : (w : List ℕ) → is_perm w ≡ true → length w ≤ 160
-perm_short w e = leb-true (length w) 160 (and_parts (is_word w) (nat_le (length w) 160) e).1
+pub perm_short : (w : List ℕ) → is_perm w ≡ true → length w ≤ MAX_LENGTH
+perm_short w e = leb-true (length w) MAX_LENGTH (and_parts (is_word w) (nat_le (length w) MAX_LENGTH) e).1
 
 -- entries of a list without repeats at two places differ
 pub distinct_apart : (xs : List ℕ) → is_distinct xs ≡ true → IsApart xs
 distinct_apart xs d = apart_from_once xs (distinct_once xs d)
 
 -- 1, 2, .., n is a word
-pub counting_perm : (n : ℕ) → 1 ≤ n → n ≤ 160 → is_perm (counting 1 n) ≡ true
+pub counting_perm : (n : ℕ) → 1 ≤ n → n ≤ MAX_LENGTH → is_perm (counting 1 n) ≡ true
 counting_perm n some few =
     let long = length_counting n 1 in
     perm_to (counting 1 n)
@@ -72,7 +73,7 @@ eq_flips a b = same_from_decides (nat_eq b a) (nat_eq a b) ((λ e. sym (eqb-true
 pub perm_kept : (xs ys : List ℕ) → IsPermutation xs ys → is_perm xs ≡ true → is_perm ys ≡ true
 perm_kept xs ys p e =
     let long = length_permutation xs ys p in
-    let a = and_parts (is_word xs) (nat_le (length xs) 160) e in
+    let a = and_parts (is_word xs) (nat_le (length xs) MAX_LENGTH) e in
     let b = and_parts (nat_le 1 (length xs)) (list_all (λ x. nat_le 1 x && nat_le x (length xs)) xs && is_distinct xs) a.0 in
     let c = and_parts (list_all (λ x. nat_le 1 x && nat_le x (length xs)) xs) (is_distinct xs) b.1 in
     rw long (and_from _ _ (and_from _ _ b.0 (and_from _ _ (kept (λ x. nat_le 1 x && nat_le x (length xs)) c.0)

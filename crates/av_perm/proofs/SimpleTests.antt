@@ -6,9 +6,10 @@ use Rattle.av_perm.specs.Simple.{is_simple}
 use Rattle.av_perm.specs.Relations.{IsOneToLength, IsSimple, IsInterval}
 use Rattle.av_perm.proofs.WordTests.{word_from}
 use Rattle.av_perm.proofs.SimpleWords.{simple_law}
+use Rattle.av_perm.specs.declared.limits.TheConstants.{MAX_LENGTH}
 
 perm_numbers : (w : List ℕ) → IsTrue (is_perm w) → IsOneToLength w
-perm_numbers w p = (word_from w (and_parts (is_word w) (nat_le (length w) 160) p).0).numbers
+perm_numbers w p = (word_from w (and_parts (is_word w) (nat_le (length w) MAX_LENGTH) p).0).numbers
 
 pub simple_passes : (w : List ℕ) → IsTrue (is_perm w) → 4 ≤ length w → ((i m : ℕ) → 2 ≤ m → m < length w → IsInterval w i m → ⊥) → true ≡ is_simple w
 simple_passes w p long none = sym ((simple_law w (perm_numbers w p)).1 (record { numbers = perm_numbers w p; long = long; bare = none }))

@@ -7,6 +7,7 @@ use Rattle.std.proofs.lemmas.List.Sums.{list_all-from_AllPass}
 use Rattle.av_perm.proofs.Tests.{IsLeastOf, least_find}
 use Rattle.std.proofs.lemmas.Bool.{and_from, and_left, and_right, or_parts, or_cases, or_from, not_from_true, not_from_false, lt-leb}
 use Rattle.av_perm.specs.Word.{is_distinct, is_word, is_perm, is_fault, is_out_of_range, fault_place}
+use Rattle.av_perm.specs.declared.limits.TheConstants.{MAX_LENGTH}
 
 -- a test that fails at each place fails of the list
 none_any : (p : ℕ → Bool) (xs : List ℕ) → ((k : ℕ) → k < length xs → p (get_or xs k 0) ≡ false) → list_any p xs ≡ false
@@ -58,7 +59,7 @@ out_of_range n x e = by (or_cases (nat_eq x 0) (nat_lt n x) e)
     by (inr high) = and_right (nat_le 1 x) _ (lt-leb x n (ltb-true n x high))
 
 -- a list of 1 to 160 entries without a fault is a word
-pub perm_from : (xs : List ℕ) → 1 ≤ length xs → length xs ≤ 160 → ((k : ℕ) → k < length xs → is_fault xs (suc k) ≡ false) → is_perm xs ≡ true
+pub perm_from : (xs : List ℕ) → 1 ≤ length xs → length xs ≤ MAX_LENGTH → ((k : ℕ) → k < length xs → is_fault xs (suc k) ≡ false) → is_perm xs ≡ true
 perm_from xs some few h =
     and_from (is_word xs) _
     (and_from (nat_le 1 (length xs)) _ (le-leb 1 (length xs) some)
@@ -66,7 +67,7 @@ perm_from xs some few h =
     (list_all-from_AllPass (λ x. nat_le 1 x && nat_le x (length xs)) xs
     (λ k d lt. rw (get_or_default_zero xs k d lt) (in_range (length xs) (get_or xs k 0) (or_parts (is_out_of_range (length xs) (get_or xs k 0)) (list_any (λ y. y == get_or xs k 0) (take k xs)) (h k lt)).0)))
     (distinct_from xs (λ k lt. (or_parts (is_out_of_range (length xs) (get_or xs k 0)) (list_any (λ y. y == get_or xs k 0) (take k xs)) (h k lt)).1))))
-    (le-leb (length xs) 160 few)
+    (le-leb (length xs) MAX_LENGTH few)
 
 -- a list with a fault isn't one
 pub not_perm : (xs : List ℕ) (i : ℕ) → i < length xs → is_fault xs (suc i) ≡ true → is_perm xs ≡ false
@@ -78,11 +79,11 @@ not_perm xs i lt e = and_left (is_word xs) _ (and_right (nat_le 1 (length xs)) _
     by (inr twice) = and_right (list_all (λ x. nat_le 1 x && nat_le x (length xs)) xs) _ (not_distinct xs i lt twice)
 
 -- the place of the first fault
-pub fault_place_first : (xs : List ℕ) (i : ℕ) → 1 ≤ length xs → length xs ≤ 160 → i < length xs → is_fault xs (suc i) ≡ true
+pub fault_place_first : (xs : List ℕ) (i : ℕ) → 1 ≤ length xs → length xs ≤ MAX_LENGTH → i < length xs → is_fault xs (suc i) ≡ true
     → ((k : ℕ) → k < i → is_fault xs (suc k) ≡ false) → fault_place xs ≡ suc i
 unfolding fault_place
 fault_place_first xs i some few lt here before =
-    rw (le-leb 1 (length xs) some, le-leb (length xs) 160 few, least_find (is_fault xs) (length xs) 1 (suc i) first) refl
+    rw (le-leb 1 (length xs) some, le-leb (length xs) MAX_LENGTH few, least_find (is_fault xs) (length xs) 1 (suc i) first) refl
   where
     earlier : (k : ℕ) → 1 ≤ k → k < suc i → is_fault xs k ≡ false
     earlier zero l h = absurd (omega arith)
@@ -92,7 +93,7 @@ fault_place_first xs i some few lt here before =
     first = record { low = omega arith; high = omega arith; passes = here; least = earlier }
 
 -- a length that is none: the length plus 1
-pub fault_place_length : (xs : List ℕ) → (nat_le 1 (length xs) && nat_le (length xs) 160) ≡ false → fault_place xs ≡ suc (length xs)
+pub fault_place_length : (xs : List ℕ) → (nat_le 1 (length xs) && nat_le (length xs) MAX_LENGTH) ≡ false → fault_place xs ≡ suc (length xs)
 unfolding fault_place
 fault_place_length xs e = rw e refl
 
@@ -117,9 +118,9 @@ twice_fault xs i e = rw e (by (is_out_of_range (length xs) (get_or xs i 0)))
     by false = refl
 
 -- a length that is none
-pub no_length : (xs : List ℕ) → length xs ≡ 0 → (nat_le 1 (length xs) && nat_le (length xs) 160) ≡ false
+pub no_length : (xs : List ℕ) → length xs ≡ 0 → (nat_le 1 (length xs) && nat_le (length xs) MAX_LENGTH) ≡ false
 no_length xs e = rw e refl
 
 -- a length above 160 is none
-pub long_length : (xs : List ℕ) → 160 < length xs → (nat_le 1 (length xs) && nat_le (length xs) 160) ≡ false
-long_length xs lt = and_right (nat_le 1 (length xs)) _ (lt-leb (length xs) 160 lt)
+pub long_length : (xs : List ℕ) → MAX_LENGTH < length xs → (nat_le 1 (length xs) && nat_le (length xs) MAX_LENGTH) ≡ false
+long_length xs lt = and_right (nat_le 1 (length xs)) _ (lt-leb (length xs) MAX_LENGTH lt)

@@ -12,6 +12,7 @@ pub mod Simple
 pub mod Gap
 pub mod LexOrder
 pub mod Stat
+pub mod StatLaws
 pub mod Fibre
 pub mod Decompose
 pub mod Parts

@@ -5,6 +5,7 @@ use Rattle.std.specs.declared.cmp.Ordering.{Ordering}
 use Rattle.std.specs.Ordering.{then_cmp, on, nat_cmp}
 use Rattle.std.specs.Cmp.Lexicographic.{slice_cmp}
 use Rattle.av_perm.specs.Lists.{counting, before_each}
+use Rattle.av_perm.specs.declared.limits.TheConstants.{MAX_LENGTH}
 
 -- the entry at a place, and 0 where there is no such place
 abbrev pub entry : List ℕ → ℕ → ℕ
@@ -27,7 +28,7 @@ is_word w =
 
 -- the words that the type `Perm` holds
 abbrev pub is_perm : List ℕ → Bool
-is_perm w = is_word w && nat_le (length w) 160
+is_perm w = is_word w && nat_le (length w) MAX_LENGTH
 
 -- each of a list is one of those
 abbrev pub ArePerms : List (List ℕ) → Type 0
@@ -56,8 +57,8 @@ abbrev pub is_fault : List ℕ → ℕ → Bool
 is_fault xs zero = false
 is_fault xs (suc i) = is_out_of_range (length xs) (slice_index xs i) || list_any (λ y. y == slice_index xs i) (take i xs)
 
--- the place of the first such entry, and 0 where there is none; the length plus 1 for a length of 0 or above 160
+-- the place of the first such entry, and 0 where there is none; the length plus 1 for a length of 0 or above the greatest
 unfoldable pub fault_place : List ℕ → ℕ
 fault_place xs =
-    if nat_le 1 (length xs) && nat_le (length xs) 160 then unwrap_or (find (is_fault xs) (places xs)) 0
+    if nat_le 1 (length xs) && nat_le (length xs) MAX_LENGTH then unwrap_or (find (is_fault xs) (places xs)) 0
     else suc (length xs)

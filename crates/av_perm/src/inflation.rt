@@ -3,14 +3,15 @@ ghost use Rattle.std.specs.Prelude.{◌≡◌, ◌+◌, ◌<◌, ◌≤◌, ◌+
 ghost use Rattle.av_perm.specs.Word.{is_perm};
 ghost use Rattle.av_perm.specs.Inflate.{below, block, raised, inflate};
 
+use crate::limits::MAX_LENGTH;
 use crate::perm::Perm;
 use arrayvec::ArrayVec;
 
-/// The inflation of a root by as many blocks, which have at most 160 entries together: each block in turn stands for an
+/// The inflation of a root by as many blocks, which have at most `MAX_LENGTH` entries together: each block in turn stands for an
 /// entry of the root, and the blocks' values lie as those entries lie. It takes no memory.
 pub fn inflate(root: &Perm, blocks: &[Perm]) -> Perm
     requires count { length blocks.now ≡ length root.now }
-    requires few { sum_by length blocks.now ≤ 160 }
+    requires few { sum_by length blocks.now ≤ MAX_LENGTH }
     ensures { result ≡ inflate root.now blocks.now }
 {
     let mut entries = ArrayVec::new();
@@ -24,7 +25,7 @@ pub fn inflate(root: &Perm, blocks: &[Perm]) -> Perm
 // By how much block i is raised: by the lengths of the blocks with smaller root entries.
 fn raise_of(root: &Perm, blocks: &[Perm], i: usize) -> u8
     requires count { length blocks.now ≡ length root.now }
-    requires few { sum_by length blocks.now ≤ 160 }
+    requires few { sum_by length blocks.now ≤ MAX_LENGTH }
     requires within { i < length root.now }
     ensures { result ≡ below (slice_index root.now i) root.now blocks.now }
 {
@@ -39,9 +40,9 @@ fn raise_of(root: &Perm, blocks: &[Perm], i: usize) -> u8
 }
 
 // Appends the entries of a block, each raised.
-fn push_raised(entries: &mut ArrayVec<u8, 160>, block: &Perm, raise: u8)
-    requires room { length entries.old.items + length block.now ≤ 160 }
-    requires low { raise + length block.now ≤ 160 }
+fn push_raised(entries: &mut ArrayVec<u8, MAX_LENGTH>, block: &Perm, raise: u8)
+    requires room { length entries.old.items + length block.now ≤ MAX_LENGTH }
+    requires low { raise + length block.now ≤ MAX_LENGTH }
     ensures items { entries.new.items ≡ entries.old.items ++ raised raise block.now }
     ensures block { IsTrue (is_perm block.now) }
 {

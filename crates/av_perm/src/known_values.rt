@@ -3,7 +3,7 @@ ghost use Rattle.std.specs.Prelude.{◌≡◌, ◌≤◌, length, filter};
 ghost use Rattle.av_perm.specs.Word.{words};
 ghost use Rattle.av_perm.specs.Simple.{is_simple};
 
-use crate::{Lex, Perm, inflate, is_simple, pattern_of};
+use crate::{Lex, MAX_ROOT_LENGTH, Perm, StatKind, inflate, is_simple, pattern_of, statistic};
 use std::process::Abort;
 
 // The word with these entries.
@@ -16,7 +16,7 @@ fn word(rt: &impl Abort, entries: &[u8]) -> Perm
 // How many words of a length are simple.
 fn count_simple(n: usize) -> usize
     requires some { 1 ≤ n }
-    requires few { n ≤ 10 }
+    requires few { n ≤ MAX_ROOT_LENGTH }
     ensures { result ≡ length (filter is_simple (words n)) }
 {
     let mut count = 0;
@@ -65,4 +65,13 @@ fn patterns_and_inflations(rt: HostRuntime) {
     let root = word(&rt, &[2, 4, 1, 3]);
     let whole = word(&rt, &[4, 7, 9, 8, 3, 2, 1, 5, 6]);
     assert!(rt; inflate(&root, &blocks) == whole);
+}
+
+// 261453 has the inversions 21, 61, 64, 65, 63, 43 and 53, descends after 6 and 5, and has the maxima 2 and 6.
+#[test]
+fn statistics_of_a_word(rt: HostRuntime) {
+    let some = word(&rt, &[2, 6, 1, 4, 5, 3]);
+    for (kind, wanted) in [(StatKind::Inv, 7), (StatKind::Des, 2), (StatKind::Lrm, 2)] {
+        assert_eq!(rt; statistic(kind, &some), wanted, "{kind:?}");
+    }
 }

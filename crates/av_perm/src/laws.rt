@@ -1,6 +1,7 @@
 // The laws of words: the definitions that compute agree with the textbook.
 ghost use Rattle.av_perm.specs.Decompose.{OneDecomposition, SomeDecomposition};
 ghost use Rattle.av_perm.specs.Parts.{PartsLaw};
+ghost use Rattle.av_perm.specs.StatLaws.{StatisticsLaw};
 ghost use Rattle.av_perm.specs.Laws.{WordLaw, ContainsLaw, OccurrencesLaw, ClassLaw, MinimalLaw, MaximalLaw, WordsLaw, ClassAtLaw, PatternLaw, SimpleLaw, SumLaw, SkewLaw, SimplesLaw, SimplesBelowLaw, GapLaw, InflationLaw};
 
 /// The test for words passes exactly the words: the lists of the numbers 1 to n, each once, for an n of at least 1.
@@ -105,4 +106,11 @@ pub fn some_decomposition()
 /// Of a word of length at least 2, `parts` computes the root and the blocks of its decomposition.
 pub fn parts_law()
     ensures { PartsLaw }
+{}
+
+/// The statistics count what they name. Inversions are the pairs of places of which the first holds the greater entry,
+/// descents the places whose entry is greater than the next, left-to-right maxima the places whose entry is greater than
+/// all before it.
+pub fn statistics_law()
+    ensures { StatisticsLaw }
 {}

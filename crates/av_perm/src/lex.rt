@@ -4,6 +4,7 @@ ghost use Rattle.std.specs.Iterator.{YieldsFirst, item_count};
 ghost use Rattle.av_perm.specs.Word.{is_perm, is_distinct, words};
 ghost use Rattle.av_perm.specs.LexOrder.{from_on, descends, are_below};
 
+use crate::limits::{MAX_LENGTH, MAX_ROOT_LENGTH};
 use crate::perm::Perm;
 use arrayvec::ArrayVec;
 use std::marker::Model;
@@ -12,7 +13,7 @@ use std::marker::Model;
 #[derive(Drop)]
 pub struct Lex {
     // The word that comes next; after the last word it stays.
-    entries: ArrayVec<u8, 160>,
+    entries: ArrayVec<u8, MAX_LENGTH>,
     exhausted: bool,
 }
 
@@ -30,10 +31,10 @@ impl Model for Lex {
 }
 
 impl Lex {
-    /// All words of length n, from 1 to 10.
+    /// All words of length n, from 1 to `MAX_ROOT_LENGTH`.
     pub fn new(n: usize) -> Lex
         requires some { 1 ≤ n }
-        requires few { n ≤ 10 }
+        requires few { n ≤ MAX_ROOT_LENGTH }
         ensures { result ≡ words n }
     {
         let mut entries = ArrayVec::new();
@@ -66,7 +67,7 @@ impl Iterator for Lex {
 }
 
 // The word with these entries.
-fn word_of(entries: &ArrayVec<u8, 160>) -> Perm
+fn word_of(entries: &ArrayVec<u8, MAX_LENGTH>) -> Perm
     requires { IsTrue (is_perm entries.now.items) }
     ensures { result ≡ entries.now.items }
 {

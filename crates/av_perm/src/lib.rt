@@ -10,16 +10,20 @@ mod inflation;
 mod known_values;
 pub mod laws;
 mod lex;
+mod limits;
 mod pattern;
 mod perm;
 mod simple;
+mod statistics;
 mod words;
 
 pub use inflation::inflate;
 pub use lex::Lex;
+pub use limits::{MAX_LENGTH, MAX_PATTERN_LENGTH, MAX_ROOT_LENGTH};
 pub use pattern::pattern_of;
 pub use perm::{NotPerm, Perm, shortlex};
 pub use simple::is_simple;
+pub use statistics::statistic;
 pub use words::{Memory, Words};
 
 /// A statistic of words.

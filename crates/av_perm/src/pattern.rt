@@ -3,14 +3,15 @@ ghost use Rattle.std.specs.Prelude.{◌≡◌, ◌≤◌, length, IsTrue};
 ghost use Rattle.av_perm.specs.Word.{is_distinct};
 ghost use Rattle.av_perm.specs.Pattern.{smaller, pattern_of};
 
+use crate::limits::MAX_LENGTH;
 use crate::perm::Perm;
 use arrayvec::ArrayVec;
 
-/// The word in the relative order of 1 to 160 different numbers: each entry is one more than the number of smaller ones.
+/// The word in the relative order of 1 to `MAX_LENGTH` different numbers: each entry is one more than the number of smaller ones.
 /// It takes no memory.
 pub fn pattern_of(values: &[u8]) -> Perm
     requires some { 1 ≤ length values.now }
-    requires few { length values.now ≤ 160 }
+    requires few { length values.now ≤ MAX_LENGTH }
     requires different { IsTrue (is_distinct values.now) }
     ensures { result ≡ pattern_of values.now }
 {
@@ -23,7 +24,7 @@ pub fn pattern_of(values: &[u8]) -> Perm
 
 // How many of the numbers are below one.
 fn smaller(value: u8, values: &[u8]) -> u8
-    requires { length values.now ≤ 160 }
+    requires { length values.now ≤ MAX_LENGTH }
     ensures count { result ≡ smaller value values.now }
     ensures few { result ≤ length values.now }
 {

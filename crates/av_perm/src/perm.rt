@@ -2,24 +2,25 @@
 ghost use Rattle.std.specs.Prelude.{◌≡◌, ℕ, ◌+◌, ◌<◌, ◌≤◌, ◌↔◌, List, [], ◌∷◌, length, IsTrue, IsOk, IfOk, IfErr};
 ghost use Rattle.av_perm.specs.Word.{is_perm, fault_place, entry, shortlex};
 
+use crate::limits::MAX_LENGTH;
 use arrayvec::ArrayVec;
 use std::cmp::Ordering;
 use std::hash::{Hash, Hasher};
 use std::marker::Model;
 
-/// The entries are not a word of length 1 to 160.
+/// The entries are not a word of length 1 to `MAX_LENGTH`.
 #[derive(Clone, Copy, Debug, PartialEq, Eq, thiserror::Error)]
 #[error("the entries are no word of length 1 to 160: the fault is at place {at}")]
 pub struct NotPerm {
     /// The place of the first entry that is 0, above the length, or equal to an earlier one. Where the length is 0 or
-    /// above 160, the length plus 1.
+    /// above `MAX_LENGTH`, the length plus 1.
     pub at: usize,
 }
 
-/// A word of length 1 to 160, held in place.
+/// A word of length 1 to `MAX_LENGTH`, held in place.
 #[derive(Drop)]
 pub struct Perm {
-    entries: ArrayVec<u8, 160>,
+    entries: ArrayVec<u8, MAX_LENGTH>,
 }
 
 impl Model for Perm {
@@ -35,14 +36,15 @@ impl Model for Perm {
 }
 
 impl Perm {
-    /// The word with these entries. `NotPerm` comes exactly where they are no word of length 1 to 160.
+    /// The word with these entries. `NotPerm` comes exactly where they are no word of length 1 to
+    /// `MAX_LENGTH`.
     pub fn from_entries(entries: &[u8]) -> Result<Perm, NotPerm>
         ensures which { IsOk result ↔ IsTrue (is_perm entries.now) }
         ensures word { IfOk result (λ word. word ≡ entries.now) }
         ensures at { IfErr result (λ fault. fault.at ≡ fault_place entries.now) }
     {
         let len = entries.len();
-        if len == 0 || len > 160 {
+        if len == 0 || len > MAX_LENGTH {
             return Err(NotPerm { at: len + 1 });
         }
         for i in 0..len {
@@ -59,7 +61,7 @@ impl Perm {
     }
 
     /// The word with these entries, which are known to be one.
-    pub(crate) fn from_word(entries: ArrayVec<u8, 160>) -> Perm
+    pub(crate) fn from_word(entries: ArrayVec<u8, MAX_LENGTH>) -> Perm
         requires { IsTrue (is_perm entries.items) }
         ensures { result ≡ entries.items }
     {
@@ -75,7 +77,7 @@ impl Perm {
         Perm { entries }
     }
 
-    /// Its length, from 1 to 160.
+    /// Its length, from 1 to `MAX_LENGTH`.
     pub fn len(&self) -> usize
         ensures value { result ≡ length self.now }
         ensures word { IsTrue (is_perm self.now) }

@@ -1,0 +1,10 @@
+// The greatest lengths of words.
+
+/// The greatest length of a word.
+pub const MAX_LENGTH: usize = 160;
+
+/// The greatest length of a word of a basis.
+pub const MAX_PATTERN_LENGTH: usize = 12;
+
+/// The greatest length of a simple root, and of the words that `Lex` goes through.
+pub const MAX_ROOT_LENGTH: usize = 10;
