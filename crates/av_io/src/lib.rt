@@ -9,6 +9,7 @@ mod calls;
 mod give;
 mod mem;
 mod outside;
+mod passing;
 mod sure;
 #[cfg(test)]
 mod tests;
@@ -16,5 +17,6 @@ mod traits;
 
 pub use mem::{MemSink, MemSource};
 pub use outside::{StdSink, StdSource};
+pub use passing::LARGE_PIECE;
 pub use sure::{SureSink, SureSource};
 pub use traits::{Failed, Sink, SinkFault, Source};

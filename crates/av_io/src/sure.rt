@@ -1,10 +1,12 @@
 // A source and a sink in memory that never fail.
-ghost use Rattle.std.specs.Prelude.{◌≡◌, ◌≤◌, ◌<◌, ◌++◌, [], Some, min, drop, length, IsOk, IfOk, IfErr, OnOk, OnErr};
+ghost use Rattle.std.specs.Prelude.{◌≡◌, ◌≤◌, ◌<◌, ◌++◌, [], Some, min, take, drop, length, vec_len, IsOk, IfOk, IfErr, OnOk, OnErr, IsErrOf};
 ghost use Rattle.std.specs.Io.{ReadsAtMost};
-ghost use Rattle.std.specs.Io.KnownBytes.{ReadConsumes, WriteAppends};
-ghost use Rattle.av_io.specs.Causes.{HasCause, HasSinkCause, one_more};
+ghost use Rattle.std.specs.Io.KnownBytes.{ReadConsumes, WriteAppends, Appends};
+ghost use Rattle.av_io.specs.Causes.{HasCause, HasSinkCause, Rose, one_more};
+ghost use Rattle.av_io.specs.Passed.{PassesOn};
 
 use crate::give::give;
+use crate::passing::{LARGE_PIECE, drop_front, write_from};
 use crate::{Failed, Sink, SinkFault, Source};
 use std::alloc::Global;
 use std::marker::Model;
@@ -88,6 +90,45 @@ impl SureSink {
         ensures { result.now ≡ self.now.held }
     {
         &self.bytes
+    }
+
+    /// Writes what it holds on to another sink, and then holds nothing. On an error the other sink took bytes from the
+    /// front of it, and the others are still held.
+    pub fn pass_on<K: Sink>(&mut self, sink: &mut K) -> Result<(), SinkFault>
+        ensures passed { PassesOn (K.held sink.old) (K.held sink.new) self.old.held self.new.held }
+        ensures whole { OnOk result (Appends (K.held sink.old) (K.held sink.new) self.old.held) }
+        ensures emptied { OnOk result (self.new.held ≡ []) }
+        ensures wants { self.new.wants ≡ self.old.wants }
+        ensures later { K.faults sink.old ≤ K.faults sink.new }
+        ensures wants_later { K.wants sink.old ≤ K.wants sink.new }
+        ensures failed { IsErrOf result SinkFault.Failed → Rose (K.faults sink.old) (K.faults sink.new) }
+        ensures memory { IsErrOf result SinkFault.Memory → Rose (K.wants sink.old) (K.wants sink.new) }
+        ensures no_write { self.old.held ≡ [] → sink.new ≡ sink.old }
+        ensures empty { self.old.held ≡ [] → IsOk result }
+    {
+        let mut count = 0;
+        let result = write_from(&self.bytes, &mut count, sink);
+        drop_front(&mut self.bytes, count);
+        result
+    }
+
+    /// Writes what it holds on to another sink where that is at least `LARGE_PIECE` bytes. Bytes that are passed on only so
+    /// reach the other sink in pieces of that length, where it takes them whole.
+    pub fn pass_on_large<K: Sink>(&mut self, sink: &mut K) -> Result<(), SinkFault>
+        ensures passed { PassesOn (K.held sink.old) (K.held sink.new) self.old.held self.new.held }
+        ensures small { OnOk result (length self.new.held < LARGE_PIECE) }
+        ensures wants { self.new.wants ≡ self.old.wants }
+        ensures later { K.faults sink.old ≤ K.faults sink.new }
+        ensures wants_later { K.wants sink.old ≤ K.wants sink.new }
+        ensures failed { IsErrOf result SinkFault.Failed → Rose (K.faults sink.old) (K.faults sink.new) }
+        ensures memory { IsErrOf result SinkFault.Memory → Rose (K.wants sink.old) (K.wants sink.new) }
+        ensures waits { length self.old.held < LARGE_PIECE → sink.new ≡ sink.old }
+        ensures empty { length self.old.held < LARGE_PIECE → IsOk result }
+    {
+        if self.bytes.len() < LARGE_PIECE {
+            return Ok(());
+        }
+        self.pass_on(sink)
     }
 }
 

@@ -1,6 +1,7 @@
 use crate::{
     Failed, MemSink, MemSource, Sink, SinkFault, Source, StdSink, StdSource, SureSink, SureSource,
 };
+use std::alloc::Global;
 use std::io;
 use std::io::{Read, Write};
 use std::test::Fail;
@@ -46,6 +47,42 @@ fn what_never_fails_gives_all_and_takes_all(rt: HostRuntime) -> Result<(), Fail>
     assert_eq!(rt; sink.write(b"basis "), Ok(6));
     assert_eq!(rt; sink.write(b"132"), Ok(3));
     assert_eq!(rt; sink.bytes(), &b"basis 132"[..]);
+    Ok(())
+}
+
+#[test]
+fn what_a_failing_sink_did_not_take_still_waits(rt: HostRuntime) -> Result<(), Fail> {
+    let mut waiting = SureSink::new(rt.alloc());
+    assert_eq!(rt; waiting.write(b"permspec"), Ok(8));
+    let mut sink = MemSink::new(rt.alloc(), 1, vec![in rt.alloc(); 4u64]?);
+    assert_eq!(rt; waiting.pass_on(&mut sink), Err(SinkFault::Failed));
+    assert_eq!(rt; sink.bytes(), &b"per"[..]);
+    assert_eq!(rt; waiting.bytes(), &b"mspec"[..]);
+    assert_eq!(rt; waiting.pass_on(&mut sink), Ok(()));
+    assert_eq!(rt; sink.bytes(), &b"permspec"[..]);
+    assert_eq!(rt; waiting.bytes(), &b""[..]);
+    Ok(())
+}
+
+// Passes on 1,000 pieces of 20 bytes each: two pieces of 8,200 bytes and one of 3,600.
+fn pass_on_in_large_pieces(alloc: Global, sink: &mut MemSink) -> Result<(), SinkFault> {
+    let mut waiting = SureSink::new(alloc);
+    for _ in 0..1000 {
+        waiting.write(b"twenty bytes a piece")?;
+        waiting.pass_on_large(sink)?;
+    }
+    waiting.pass_on(sink)
+}
+
+#[test]
+fn small_pieces_go_on_in_three_large_ones(rt: HostRuntime) -> Result<(), Fail> {
+    let mut sink = MemSink::new(rt.alloc(), 10_000, vec![in rt.alloc(); 4u64]?);
+    assert_eq!(rt; pass_on_in_large_pieces(rt.alloc(), &mut sink), Ok(()));
+    assert_eq!(rt; sink.bytes().len(), 20_000);
+    let mut sink = MemSink::new(rt.alloc(), 10_000, vec![in rt.alloc(); 3u64]?);
+    let result = pass_on_in_large_pieces(rt.alloc(), &mut sink);
+    assert_eq!(rt; result, Err(SinkFault::Failed));
+    assert_eq!(rt; sink.bytes().len(), 16_400);
     Ok(())
 }
 
