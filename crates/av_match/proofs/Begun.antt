@@ -1,5 +1,5 @@
 -- Which places go on with those chosen.
-use Rattle.std.proofs.Common.{◌≡◌, ℕ, suc, ◌+◌, ◌-◌, ◌<◌, ◌≤◌, ◌≢◌, ◌↔◌, ◌⊎◌, inl, inr, max, min, List, [], ◌∷◌, ◌++◌, length, take, true, refl, ◌∙◌, ap, arith, below_more}
+use Rattle.std.proofs.Common.{◌≡◌, ℕ, suc, ◌-◌, ◌<◌, ◌≤◌, ◌≢◌, ◌↔◌, ◌⊎◌, inl, inr, List, [], ◌∷◌, ◌++◌, length, take, true, refl, ◌∙◌, ap, arith}
 use Rattle.std.proofs.Math.ListN.{get_or-append}
 use Rattle.std.proofs.Math.Seq.{take-suc, get_or-append_seam}
 use Rattle.std.proofs.lemmas.Bool.{cases_lt, cases_eq}
@@ -120,24 +120,6 @@ goes_on w p cs place perm begun lt one last =
       },
     )
 
--- where the window fits the first entries, it fits one more once that one narrows it from below, or from above
-pub narrowed_below : (Q : ℕ → Type 0) (i low high a x : ℕ) → (((low < x) × (x < high)) ↔ ((k : ℕ) → k < i → Q k)) → (Q i ↔ (a < x))
-    → ((max low a < x) × (x < high)) ↔ ((k : ℕ) → k < i + 1 → Q k)
-narrowed_below Q i low high a x f g = (
-  λ h. below_more Q i (f.0 (omega (arith, h.0), h.1)) (g.1 (omega (arith, h.0))),
-  λ q. let old = f.1 (λ k lt. q k (omega arith)) in let new = g.0 (q i (omega arith)) in (omega (arith, old.0), old.1),
-)
-
-pub narrowed_above : (Q : ℕ → Type 0) (i low high a x : ℕ) → (((low < x) × (x < high)) ↔ ((k : ℕ) → k < i → Q k)) → (Q i ↔ (x < a))
-    → ((low < x) × (x < min high a)) ↔ ((k : ℕ) → k < i + 1 → Q k)
-narrowed_above Q i low high a x f g = (
-  λ h. below_more Q i (f.0 (h.0, omega (arith, h.1))) (g.1 (omega (arith, h.1))),
-  λ q. let old = f.1 (λ k lt. q k (omega arith)) in let new = g.0 (q i (omega arith)) in (old.0, omega (arith, old.1)),
-)
-
--- the window holds the entries of the places that go on, as the code reads them
-pub in_window : (w p cs ds : List ℕ) (low high place : ℕ) → ds ≡ cs
-    → ((q : ℕ) → 1 ≤ q → q ≤ length w → IsBegun w p (ds ++ q ∷ []) ↔ ((low < entry w q) × (entry w q < high)))
-    → 1 ≤ place → place ≤ length w
-    → IsBegun w p (cs ++ place ∷ []) ↔ ((low < at w (place - 1)) × (at w (place - 1) < high))
-in_window w p cs ds low high place same window one last = rw (← same, ← entry_at w place one) (window place one last)
+-- the entry at a place, as the code reads it, lies in the window
+pub in_window : (w : List ℕ) (least most place : ℕ) → 1 ≤ place → (least ≤ entry w place) × (entry w place ≤ most) ↔ (least ≤ at w (place - 1)) × (at w (place - 1) ≤ most)
+in_window w least most place one = rw (entry_at w place one) (λ h. h, λ h. h)

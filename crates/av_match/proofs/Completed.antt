@@ -1,22 +1,21 @@
 -- The first occurrence that begins with given places.
-use Rattle.std.proofs.Common.{◌≡◌, ℕ, zero, suc, ◌+◌, ◌-◌, ◌<◌, ◌≤◌, Bool, true, false, ◌||◌, cond, List, [], ◌∷◌, ◌++◌, map, length, take, drop, find, Some, None, refl, sym, ◌∙◌, ap, ap₂, subst, arith, append_assoc, append-nil, take-append-drop, length-take-le}
+use Rattle.std.proofs.Common.{◌≡◌, ℕ, zero, suc, ◌+◌, ◌-◌, ◌<◌, ◌≤◌, Bool, true, false, ◌||◌, cond, List, [], ◌∷◌, ◌++◌, map, length, take, find, Some, None, refl, sym, ◌∙◌, ap, ap₂, subst, arith, append_assoc, append-nil}
 use Rattle.std.specs.List.{list_any}
 use Rattle.std.specs.Option.{option_or, is_some}
-use Rattle.std.proofs.Math.ListN.{get_or-append}
 use Rattle.std.proofs.Math.Seq.{take-append_seam}
-use Rattle.std.proofs.lemmas.List.{take_all, map-append, length-append, length-map}
+use Rattle.std.proofs.lemmas.List.{take_all, map-append, length-append}
 use Rattle.std.proofs.lemmas.List.Folds.{find-append}
 use Rattle.av_perm.specs.Lists.{choices, before_each}
-use Rattle.av_perm.specs.Word.{entry, places}
+use Rattle.av_perm.specs.Word.{places}
 use Rattle.av_perm.specs.Contain.{same_order, at_places, contains, first_occurrence}
-use Rattle.av_perm.specs.Relations.{SameOrder}
+use Rattle.av_perm.specs.Relations.{at, SameOrder}
 use Rattle.av_perm.proofs.Membership.{In_map}
 use Rattle.av_perm.proofs.Orders.{order_from, order_to}
 use Rattle.av_perm.proofs.Occurrences.{occurrence_found}
-use Rattle.av_perm.proofs.RisingLists.{length_counting}
+use Rattle.av_perm.proofs.RisingLists.{length_counting, choices_rise, rising_at}
 use Rattle.av_perm.proofs.Tests.{any_from, found_any}
 use Rattle.av_match.specs.Places.{ArePlaces}
-use Rattle.av_match.specs.Search.{IsBegun, completed, places_from}
+use Rattle.av_match.specs.Search.{IsBegun, IsWhole, completed, places_from}
 use Rattle.av_match.proofs.Begun.{placed_more}
 
 -- ---- whether anything goes on with the places chosen
@@ -43,28 +42,32 @@ completed_short w p cs from lt =
     let n = length_counting (suc (length w) - from) from in
     rw (choices_short (length p - length cs) (places_from w from) (omega arith)) refl
 
--- two lists in the same order, by their first entries
-order_front : (xs ys us vs : List ℕ) → length xs ≡ length ys → SameOrder (xs ++ us) (ys ++ vs) → SameOrder xs ys
-order_front xs ys us vs n o = record {
-  count = n;
-  alike = λ s t hs ht.
-      let long = length-append xs us in
-      let a = o.alike s t (omega arith) (omega arith) in
-      rw (get_or-append xs us 0 s hs, get_or-append xs us 0 t ht, get_or-append ys vs 0 s (omega arith), get_or-append ys vs 0 t (omega arith)) at a;
-}
-
--- the entries at the places chosen are not in the pattern's order
-completed_not : (w p cs xs : List ℕ) → length cs ≤ length p → (SameOrder (at_places w cs) (take (length cs) p) → ⊥) → completed w p cs xs ≡ None
+-- no occurrence begins with the places chosen
+completed_not : (w p cs : List ℕ) (from : ℕ) → 1 ≤ from → length cs ≤ length p → ((s : ℕ) → s < length cs → (1 ≤ at cs s) × (at cs s ≤ length w))
+    → ((rest : List ℕ) → IsWhole w p (cs ++ rest) → ⊥) → completed w p cs (places_from w from) ≡ None
 unfolding completed
-completed_not w p cs xs le unlike =
+completed_not w p cs from one le placed none =
     let passes : List ℕ → Bool = λ ps. same_order (at_places w ps) p in
-    let rs = choices (length p - length cs) xs in
+    let rs = choices (length p - length cs) (places_from w from) in
     (found_any passes (map (λ rest. cs ++ rest) rs)).1 (λ h.
     let r = any_from passes (map (λ rest. cs ++ rest) rs) h in
     let q = In_map (λ (rest : List ℕ). cs ++ rest) rs r.0 r.1 in
-    unlike (order_front (at_places w cs) (take (length cs) p) (at_places w q.0) (drop (length cs) p)
-    (length-map cs (entry w) ∙ sym (length-take-le (length cs) p le))
-    (rw (take-append-drop (length cs) p, ← map-append (entry w) cs q.0) (order_from (at_places w (cs ++ q.0)) p (rw (← q.2) r.2)))))
+    let c = choices_rise (suc (length w) - from) (length p - length cs) from q.0 q.1 in
+    let n : length (cs ++ q.0) ≡ length p = omega (arith, length-append cs q.0, c.0) in
+    none q.0 (record {
+      begun = record {
+        placed = placed_all cs q.0 placed (λ s k. let b = rising_at from (from + (suc (length w) - from)) q.0 c.1 s k in (omega (arith, b), omega (arith, b)));
+        order = subst (λ (t : List ℕ). SameOrder (at_places w (cs ++ q.0)) t) (sym (take_all (length (cs ++ q.0)) p (omega (arith, n))))
+            (order_from (at_places w (cs ++ q.0)) p (rw (← q.2) r.2));
+      };
+      count = n;
+    }))
+  where
+    placed_all : (cs ds : List ℕ) → ((s : ℕ) → s < length cs → (1 ≤ at cs s) × (at cs s ≤ length w)) → ((s : ℕ) → s < length ds → (1 ≤ at ds s) × (at ds s ≤ length w))
+        → (s : ℕ) → s < length (cs ++ ds) → (1 ≤ at (cs ++ ds) s) × (at (cs ++ ds) s ≤ length w)
+    placed_all [] ds f g s h = g s h
+    placed_all (x ∷ cs) ds f g zero h = f zero (omega arith)
+    placed_all (x ∷ cs) ds f g (suc s) h = placed_all cs ds (λ t k. f (suc t) (omega arith)) g s (omega arith)
 
 -- ---- one place more
 
@@ -103,13 +106,14 @@ pub found_later : (w p cs : List ℕ) (from : ℕ) → from ≤ length w → len
     → None ≡ completed w p (cs ++ from ∷ []) (places_from w (from + 1)) → completed w p cs (places_from w (from + 1)) ≡ completed w p cs (places_from w from)
 found_later w p cs from le lt e = rw (places_step w from le, completed_step w p cs from (places_from w (from + 1)) lt, ← e) refl
 
--- none takes the place, since it doesn't go on with those chosen
+-- none takes the place, since no occurrence goes on with it
 pub found_not : (w p cs : List ℕ) (from : ℕ) → IsBegun w p cs → 1 ≤ from → from ≤ length w → length cs < length p
-    → (IsBegun w p (cs ++ from ∷ []) → ⊥) → completed w p cs (places_from w (from + 1)) ≡ completed w p cs (places_from w from)
-found_not w p cs from begun one le lt stops =
+    → ((rest : List ℕ) → IsWhole w p (cs ++ from ∷ rest) → ⊥) → completed w p cs (places_from w (from + 1)) ≡ completed w p cs (places_from w from)
+found_not w p cs from begun one le lt none =
     found_later w p cs from le lt
-    (sym (completed_not w p (cs ++ from ∷ []) (places_from w (from + 1)) (omega (arith, length-append cs (from ∷ [])))
-    (λ o. stops (record { placed = placed_more w p cs from begun one le; order = o }))))
+    (sym (completed_not w p (cs ++ from ∷ []) (from + 1) (omega arith) (omega (arith, length-append cs (from ∷ [])))
+    (placed_more w p cs from begun one le)
+    (λ rest whole. none rest (subst (λ (ps : List ℕ). IsWhole w p ps) (append_assoc cs (from ∷ []) rest) whole))))
 
 -- a list after a push and a pop
 pub popped : (cs ds new : List ℕ) (x : ℕ) → ds ≡ cs ++ x ∷ [] → new ≡ take (length ds - 1) ds → new ≡ cs

@@ -73,7 +73,7 @@ minimal_shorter : (ws : List (List ℕ)) (w : List ℕ) → ArePerms ws → In w
 minimal_shorter ws w g i = all_same _ _ ws (λ v j. shorter_test w v (perm_in ws w g i) (perm_in ws v g j))
 
 -- a set in shortlex order takes a word as the list does
-insert_same : (w : List ℕ) (ws : List (List ℕ)) → insert_key shortlex ws w ≡ insert_word w ws
+pub insert_same : (w : List ℕ) (ws : List (List ℕ)) → insert_key shortlex ws w ≡ insert_word w ws
 insert_same w [] = refl
 insert_same w (v ∷ ws) = by (shortlex w v) (insert_same w ws)
   where

@@ -1,3 +1,5 @@
 pub mod Begun
 pub mod Completed
 pub mod Gathered
+pub mod Missed
+pub mod Spreads

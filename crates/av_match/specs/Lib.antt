@@ -1,3 +1,4 @@
--- Places, and what the search for an occurrence keeps.
+-- Places, what the search for an occurrence keeps, and the first word of a list that is contained.
 pub mod Places
 pub mod Search
+pub mod FirstBad

@@ -1,5 +1,5 @@
 -- What the search for an occurrence keeps.
-use Rattle.std.specs.Prelude.{ℕ, suc, ◌-◌, ◌<◌, ◌≤◌, Bool, true, false, List, ◌++◌, map, length, take, find, Option, Some, None}
+use Rattle.std.specs.Prelude.{◌≡◌, ℕ, suc, ◌-◌, ◌<◌, ◌≤◌, Bool, true, false, List, ◌++◌, map, length, take, find, Option, Some, None}
 use Rattle.av_perm.specs.Lists.{choices, counting}
 use Rattle.av_perm.specs.Contain.{same_order, at_places}
 use Rattle.av_perm.specs.Relations.{at, SameOrder}
@@ -8,6 +8,11 @@ use Rattle.av_perm.specs.Relations.{at, SameOrder}
 pub record IsBegun (w p chosen : List ℕ) : Type 0 where
   pub placed : (s : ℕ) → s < length chosen → (1 ≤ at chosen s) × (at chosen s ≤ length w)
   pub order : SameOrder (at_places w chosen) (take (length chosen) p)
+
+-- and there is one for each entry of the pattern
+pub record IsWhole (w p chosen : List ℕ) : Type 0 where
+  pub begun : IsBegun w p chosen
+  pub count : length chosen ≡ length p
 
 -- the first occurrence that begins with the places chosen and goes on with some of xs
 unfoldable pub completed : List ℕ → List ℕ → List ℕ → List ℕ → Option (List ℕ)

@@ -2,39 +2,43 @@
 ghost use Rattle.std.specs.Prelude.{◌≡◌, ℕ, ◌+◌, ◌<◌, ◌≤◌, ◌↔◌, List, [], ◌∷◌, ◌++◌, length, true, false, IsTrue};
 ghost use Rattle.av_perm.specs.Word.{is_perm, entry};
 ghost use Rattle.av_perm.specs.Contain.{contains, first_occurrence};
-ghost use Rattle.av_match.specs.Search.{completed, places_from, IsBegun, some_if};
+ghost use Rattle.av_match.specs.Search.{completed, places_from, IsBegun, IsWhole, some_if};
 
 use crate::places::Places;
 use arrayvec::ArrayVec;
 use av_perm::Perm;
 
-// The entries above `low` and below `high`.
+// The entries from `least` to `most`.
 #[derive(Clone, Copy)]
 struct Window {
-    low: u8,
-    high: u8,
+    least: usize,
+    most: usize,
 }
 
-// The entries that may stand for the pattern's next one, after the places chosen.
+// The entries that may stand for the pattern's next one, after the places chosen: those that lie to the entries there as the
+// pattern's entries lie, with room between them for the entries of the pattern between. With less room no occurrence follows.
 fn fitting(word: &[u8], pattern: &[u8], chosen: &[u8]) -> Window
     requires word { IsTrue (is_perm word.now) }
     requires pattern { IsTrue (is_perm pattern.now) }
+    requires fits { length pattern.now ≤ length word.now }
     requires begun { IsBegun word.now pattern.now chosen.now }
     requires room { length chosen.now < length pattern.now }
-    ensures { (place : ℕ) → 1 ≤ place → place ≤ length word.now → IsBegun word.now pattern.now (chosen.now ++ place ∷ []) ↔ (result.low < entry word.now place) × (entry word.now place < result.high) }
+    ensures begun { (place : ℕ) → 1 ≤ place → place ≤ length word.now → result.least ≤ entry word.now place → entry word.now place ≤ result.most → IsBegun word.now pattern.now (chosen.now ++ place ∷ []) }
+    ensures whole { (place : ℕ) (rest : List ℕ) → IsWhole word.now pattern.now (chosen.now ++ place ∷ rest) → (result.least ≤ entry word.now place) × (entry word.now place ≤ result.most) }
 {
-    let next = pattern[chosen.len()];
-    let mut low: u8 = 0;
-    let mut high = u8::MAX;
+    let next = pattern[chosen.len()] as usize;
+    let mut least = next;
+    let mut most = word.len() - pattern.len() + next;
     for i in 0..chosen.len() {
-        let x = word[chosen[i] as usize - 1];
-        if pattern[i] < next {
-            low = low.max(x);
+        let x = word[chosen[i] as usize - 1] as usize;
+        let own = pattern[i] as usize;
+        if own < next {
+            least = least.max(x + (next - own));
         } else {
-            high = high.min(x);
+            most = most.min(x.saturating_sub(own - next));
         }
     }
-    Window { low, high }
+    Window { least, most }
 }
 
 // Extends the places chosen to the first whole occurrence that goes on with places from `from` on. Where there is none,
@@ -57,8 +61,8 @@ fn extend(word: &[u8], pattern: &[u8], chosen: &mut ArrayVec<u8, 160>, from: usi
     let window = fitting(word, pattern, chosen.as_slice());
     // Places are left for the rest of the pattern.
     for place in from..word.len() + 2 - rest {
-        let x = word[place - 1];
-        if window.low < x && x < window.high {
+        let x = word[place - 1] as usize;
+        if window.least <= x && x <= window.most {
             chosen.push(place as u8);
             if extend(word, pattern, chosen, place + 1) {
                 return true;

@@ -1,5 +1,5 @@
 // What each public call answers at words whose answers are known.
-use crate::{contains, find, maximal, minimal};
+use crate::{contains, find, first_bad, maximal, minimal};
 use av_perm::{Memory, Perm, Words};
 use std::alloc::Global;
 
@@ -36,6 +36,19 @@ fn containment(rt: HostRuntime) {
     assert!(rt; contains(&long, &word(&[2, 4, 1, 3])));
     assert!(rt; !contains(&long, &word(&[3, 1, 4, 2])));
     assert!(rt; contains(&long, &long));
+}
+
+#[test]
+fn the_first_word_that_is_contained(rt: HostRuntime) -> Result<(), Memory> {
+    let basis = words(rt.alloc(), &[&[3, 2, 1], &[1, 2, 3], &[1, 3, 2]])?;
+    let Some(bad) = first_bad(&word(&[2, 4, 1, 3, 5]), &basis) else {
+        assert!(rt; false, "a word of the list");
+        return Ok(());
+    };
+    assert_eq!(rt; bad.index, 1);
+    assert!(rt; bad.places.as_slice() == [1, 2, 5].as_slice());
+    assert!(rt; first_bad(&word(&[2, 1]), &basis).is_none());
+    Ok(())
 }
 
 #[test]

@@ -1,6 +1,6 @@
 -- The first occurrence goes on with the loop's place, or else with a later one.
 use Rattle.std.proofs.Common.{◌≡◌, ℕ, ◌+◌, ◌<◌, ◌≤◌, List, [], ◌∷◌, ◌++◌, length, arith, sym, ◌∙◌, ap, subst, Some, None, rules, refl}
-use Rattle.av_match.specs.Search.{IsBegun, completed, places_from}
+use Rattle.av_match.specs.Search.{IsBegun, IsWhole, completed, places_from}
 use Rattle.av_match.proofs.Begun.{in_window}
 use Rattle.av_match.proofs.Completed.{completed_whole, completed_short, found_here, found_later, found_not, popped}
 use Rattle.av_match.proofs.search.+extend.Goals as goal
@@ -18,8 +18,9 @@ extend-requires t c =
     let place = c.loop-place.place in
     let pushed : c.push.new.self.items ≡ cs ++ place ∷ [] = c.push.ensures.items ∙ ap (λ (ds : List ℕ). ds ++ place ∷ []) c.loop-place.invariant.same in
     let long = ap length c.loop-place.invariant.same in
-    let window = in_window w p cs c.as_slice.result.now c.fitting-window.result.low c.fitting-window.result.high place c.as_slice.ensures.value c.fitting-window.ensures (omega arith) (omega arith) in
-    let begun : IsBegun w p c.push.new.self.items = subst (λ (ds : List ℕ). IsBegun w p ds) (sym pushed) (window.1 (c.if-window-x.true, c.if-x-window.true)) in
+    let read = (in_window w c.fitting-window.result.least c.fitting-window.result.most place (omega arith)).1 (c.if-window-x.true, c.if-x-window.true) in
+    let fits = c.fitting-window.ensures.begun place (omega arith) (omega arith) read.0 read.1 in
+    let begun : IsBegun w p c.push.new.self.items = subst (λ (ds : List ℕ). IsBegun w p ds) (ap (λ (ds : List ℕ). ds ++ place ∷ []) c.as_slice.ensures.value ∙ sym pushed) fits in
     let short : length c.push.new.self.items ≤ length p = omega (arith, c.push.ensures.len, c.len.ensures.value) in
     search (rules, begun, short)
 
@@ -42,7 +43,6 @@ loop-place-preserved t c =
     let place = c.loop-place.place in
     let last : place ≤ length w = omega arith in
     let short : length cs < length p = omega (arith, c.len.ensures.value) in
-    let window = in_window w p cs c.as_slice.result.now c.fitting-window.result.low c.fitting-window.result.high place c.as_slice.ensures.value c.fitting-window.ensures (omega arith) last in
     elim c.if-window-x.branch [
       | then-window-x+then-x-window+else-extend u ↦
           let pushed : u.push.new.self.items ≡ cs ++ place ∷ [] = u.push.ensures.items ∙ ap (λ (ds : List ℕ). ds ++ place ∷ []) c.loop-place.invariant.same in
@@ -54,10 +54,13 @@ loop-place-preserved t c =
           }
       | else-window-x u ↦ record {
         same = ap (λ v. v.items) u.chosen-is ∙ c.loop-place.invariant.same;
-        none = found_not w p cs place c.requires.begun (omega arith) last short (λ begun. elim u.else-window-x.branch [
-          | else-window-x-via-then-window-x+else-x-window v ↦ absurd (omega (arith, (window.0 begun).1, v.if-x-window.false))
-          | else-window-x-via-else-window-x v ↦ absurd (omega (arith, (window.0 begun).0, v.if-window-x.false))
-        ]) ∙ c.loop-place.invariant.none;
+        none = found_not w p cs place c.requires.begun (omega arith) last short (λ rest whole.
+            let fits = c.fitting-window.ensures.whole place rest (subst (λ (ds : List ℕ). IsWhole w p (ds ++ place ∷ rest)) (sym c.as_slice.ensures.value) whole) in
+            let read = (in_window w c.fitting-window.result.least c.fitting-window.result.most place (omega arith)).0 fits in
+            elim u.else-window-x.branch [
+              | else-window-x-via-then-window-x+else-x-window v ↦ absurd (omega (arith, read.1, v.if-x-window.false))
+              | else-window-x-via-else-window-x v ↦ absurd (omega (arith, read.0, v.if-window-x.false))
+            ]) ∙ c.loop-place.invariant.none;
       }
     ]
 
