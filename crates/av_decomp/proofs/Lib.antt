@@ -1,7 +1,7 @@
 pub mod SpanNumbers
 pub mod TiledWords
 pub mod SimpleRoots
-pub mod Halves
+pub mod TwoParts
 pub mod Decompositions
 pub mod DecompositionTrees
 pub mod FormedTrees

@@ -10,5 +10,5 @@ mod shape;
 mod tests;
 mod trees;
 
-pub use shape::{Shape, block, decompose};
+pub use shape::{Shape, block, decompose, halves};
 pub use trees::{DecTree, tree};

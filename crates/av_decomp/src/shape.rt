@@ -53,8 +53,8 @@ fn block_spans(word: &Perm) -> Spans
     }
 }
 
-// The first entries up to a cut, and the rest.
-fn halves(word: &Perm, cut: usize) -> Spans
+/// The spans of the two parts of a word that is cut after its first `cut` entries.
+pub fn halves(word: &Perm, cut: usize) -> Spans
     requires some { 1 ≤ cut }
     requires part { cut < length word.now }
     ensures { result ≡ halves_at (length word.now) cut }

@@ -3,7 +3,7 @@ use Rattle.std.proofs.Common.{length, sym, subst, refl}
 use Rattle.av_perm.proofs.PermWords.{perm_word}
 use Rattle.av_interval.proofs.FirstCuts.{uncut}
 use Rattle.av_decomp.specs.Blocks.{IsBlockSpans}
-use Rattle.av_decomp.proofs.Halves.{halves_cover, sum_decomposes, skew_sum_decomposes}
+use Rattle.av_decomp.proofs.TwoParts.{halves_cover, sum_decomposes, skew_sum_decomposes}
 use Rattle.av_decomp.proofs.SimpleRoots.{are_maximal, maximal_decomposes}
 use Rattle.av_decomp.proofs.shape.block_spans.Goals as goal
 

@@ -68,20 +68,43 @@ heads w k h l =
     let e : k + 1 - 1 ≡ k = omega arith in
     (first_at w (halves_at (length w) k) 0 c (omega arith), first_at w (halves_at (length w) k) 1 c (omega arith) ∙ ap (at w) e)
 
+-- a word with low first entries is cut into two intervals, whose first entries rise
+pub low_tiled : (w : List ℕ) (k : ℕ) → IsOneToLength w → 1 ≤ k → k < length w → Low w k → IsTiled w (halves_at (length w) k)
+low_tiled w k g h l low = halves_tiled w k 1 (suc k) g h l
+    (λ s x. let a = g.within s (omega arith) in let b = low s x in (a.0, omega arith))
+    (λ s x y. let a = above_low w k s g l low x y in (omega (arith, a), omega (arith, a)))
+
+pub low_root : (w : List ℕ) (k : ℕ) → IsOneToLength w → 1 ≤ k → k < length w → Low w k → root_at w (halves_at (length w) k) ≡ sum_root
+low_root w k g h l low =
+    let e = heads w k h l in
+    let x = low 0 (omega arith) in
+    let y = above_low w k k g l low (omega arith) l in
+    two_rise (first_entries w (halves_at (length w) k)) refl (omega (arith, e, y))
+
+-- and one with high first entries, where they fall
+pub high_tiled : (w : List ℕ) (k : ℕ) → IsOneToLength w → 1 ≤ k → k < length w → High w k → IsTiled w (halves_at (length w) k)
+high_tiled w k g h l high = halves_tiled w k (suc (length w - k)) 1 g h l
+    (λ s x. let a = g.within s (omega arith) in let b = high s x in (omega arith, omega arith))
+    (λ s x y. let a = below_high w k s g l high x y in (omega (arith, a), omega (arith, a)))
+
+pub high_root : (w : List ℕ) (k : ℕ) → IsOneToLength w → 1 ≤ k → k < length w → High w k → root_at w (halves_at (length w) k) ≡ skew_root
+high_root w k g h l high =
+    let e = heads w k h l in
+    let x = high 0 (omega arith) in
+    let y = below_high w k k g l high (omega arith) l in
+    two_fall (first_entries w (halves_at (length w) k)) refl (omega (arith, e, y))
+
 -- the least cut of a sum, and of a skew sum
 pub sum_decomposes : (w : List ℕ) (k : ℕ) → IsOneToLength w → IsLeast (IsSumCut w) k → Decomposes w (root_at w (halves_at (length w) k)) (blocks_at w (halves_at (length w) k))
 sum_decomposes w k g c =
     let h = c.member.some in
     let l = c.member.part in
     let low = cut_low w k c.member in
-    let t = halves_tiled w k 1 (suc k) g h l (λ s x. let a = g.within s (omega arith) in let b = low s x in (a.0, omega arith)) (λ s x y. let a = above_low w k s g l low x y in (omega (arith, a), omega (arith, a))) in
-    let e = heads w k h l in
-    let x = low 0 (omega arith) in
-    let y = above_low w k k g l low (omega arith) l in
+    let t = low_tiled w k g h l low in
     record {
       blocks = tiled_blocks w (halves_at (length w) k) t;
       value = tiled_value w (halves_at (length w) k) t;
-      root = inl (two_rise (first_entries w (halves_at (length w) k)) refl (omega (arith, e, y)), subst (IsNoInflationOf sum_root) (sym (first_block w k)) (none h l low));
+      root = inl (low_root w k g h l low, subst (IsNoInflationOf sum_root) (sym (first_block w k)) (none h l low));
     }
   where
     none : 1 ≤ k → k < length w → Low w k → IsNoInflationOf sum_root (pattern_of (take k w))
@@ -99,14 +122,11 @@ skew_sum_decomposes w k g c =
     let h = c.member.some in
     let l = c.member.part in
     let high = cut_high w k c.member in
-    let t = halves_tiled w k (suc (length w - k)) 1 g h l (λ s x. let a = g.within s (omega arith) in let b = high s x in (omega arith, omega arith)) (λ s x y. let a = below_high w k s g l high x y in (omega (arith, a), omega (arith, a))) in
-    let e = heads w k h l in
-    let x = high 0 (omega arith) in
-    let y = below_high w k k g l high (omega arith) l in
+    let t = high_tiled w k g h l high in
     record {
       blocks = tiled_blocks w (halves_at (length w) k) t;
       value = tiled_value w (halves_at (length w) k) t;
-      root = inr (inl (two_fall (first_entries w (halves_at (length w) k)) refl (omega (arith, e, y)), subst (IsNoInflationOf skew_root) (sym (first_block w k)) (none h l high)));
+      root = inr (inl (high_root w k g h l high, subst (IsNoInflationOf skew_root) (sym (first_block w k)) (none h l high)));
     }
   where
     none : 1 ≤ k → k < length w → High w k → IsNoInflationOf skew_root (pattern_of (take k w))
