@@ -3,7 +3,7 @@ use Rattle.std.proofs.Common.{◌≡◌, ℕ, ◌+◌, ◌<◌, ◌≤◌, List,
 use Rattle.std.proofs.lemmas.List.{drop_all}
 use Rattle.av_text.specs.declared.kind.Kind.{Kind}
 use Rattle.av_text.specs.Steps.{◌>>=◌}
-use Rattle.av_text.specs.Limits.{longest_basis_word}
+use Rattle.av_perm.specs.declared.limits.TheConstants.{MAX_PATTERN_LENGTH}
 use Rattle.av_text.specs.Words.{word_in}
 use Rattle.av_text.specs.Read.{basis_words}
 
@@ -18,13 +18,13 @@ front_cons front w (Ok ws) = ap Ok (sym (append_assoc front (w ∷ []) ws))
 front_cons front w (Err k) = refl
 
 -- the next token is a word
-front_word : (front : List (List ℕ)) (t : List ℕ) (ts : List (List ℕ)) (w : List ℕ) → word_in longest_basis_word t ≡ Ok w
+front_word : (front : List (List ℕ)) (t : List ℕ) (ts : List (List ℕ)) (w : List ℕ) → word_in MAX_PATTERN_LENGTH t ≡ Ok w
     → with_front front (basis_words (t ∷ ts)) ≡ with_front (front ++ w ∷ []) (basis_words ts)
 unfolding basis_words
 front_word front t ts w e = rw e (front_cons front w (basis_words ts))
 
 -- the next token is at fault
-front_fault : (front : List (List ℕ)) (t : List ℕ) (ts : List (List ℕ)) (k : Kind) → word_in longest_basis_word t ≡ Err k
+front_fault : (front : List (List ℕ)) (t : List ℕ) (ts : List (List ℕ)) (k : Kind) → word_in MAX_PATTERN_LENGTH t ≡ Err k
     → with_front front (basis_words (t ∷ ts)) ≡ Err k
 unfolding basis_words
 front_fault front t ts k e = rw e refl
@@ -42,7 +42,7 @@ after_drop tokens i d lt =
 
 -- a turn of the loop over the tokens, where r is what the whole line gives
 pub basis_turn : (front : List (List ℕ)) (tokens : List (Bor (List ℕ))) (i : ℕ) (d : Bor (List ℕ)) (w : List ℕ) (r : Result (List (List ℕ)) Kind) → i < length tokens
-    → Ok w ≡ word_in longest_basis_word (get_or tokens i d).now
+    → Ok w ≡ word_in MAX_PATTERN_LENGTH (get_or tokens i d).now
     → with_front front (basis_words (map (λ t. t.now) (drop i tokens))) ≡ r
     → with_front (front ++ w ∷ []) (basis_words (map (λ t. t.now) (drop (i + 1) tokens))) ≡ r
 basis_turn front tokens i d w r lt h inv =
@@ -50,7 +50,7 @@ basis_turn front tokens i d w r lt h inv =
 
 -- its exit at a token that is at fault
 pub basis_fault : (front : List (List ℕ)) (tokens : List (Bor (List ℕ))) (i : ℕ) (d : Bor (List ℕ)) (k : Kind) (r : Result (List (List ℕ)) Kind) → i < length tokens
-    → Err k ≡ word_in longest_basis_word (get_or tokens i d).now
+    → Err k ≡ word_in MAX_PATTERN_LENGTH (get_or tokens i d).now
     → with_front front (basis_words (map (λ t. t.now) (drop i tokens))) ≡ r
     → r ≡ Err k
 basis_fault front tokens i d k r lt h inv =

@@ -10,7 +10,7 @@ use Rattle.av_text.specs.declared.script.Script.{Script}
 use Rattle.av_text.specs.Lines.{script_lines, tokens}
 use Rattle.av_text.specs.Numerals.{is_digits, is_numeral, number_in}
 use Rattle.av_text.specs.Words.{is_comma_form, entries_of, checked_word, word_in}
-use Rattle.av_text.specs.Queries.{form_named, query_with_one, query_with, query_of}
+use Rattle.av_text.specs.Queries.{form_named, query_with_one, query_with_two, query_with_three, query_with_five, query_with, query_of}
 use Rattle.av_text.specs.Read.{Fault, basis_words, basis_said, tokens_said, line_said, lines_said, read}
 
 -- a fault at a line
@@ -46,12 +46,16 @@ table =
     ∷ (codes "basis 132\ncuont 7", fault 2 UnknownQuery)
     ∷ (codes "basis 132\ncount", fault 2 UnknownQuery)
     ∷ (codes "basis 132\nlist 3 from", fault 2 UnknownQuery)
-    ∷ (codes "basis 132\nunrank 3 340282366920938463463374607431768211456", fault 2 UnknownQuery)
+    ∷ (codes "basis 132\nlist 3\nlist 3 from 2\nlist 3 for 2\nlist 3 from 2 for 1000000", script (w132 ∷ []) (query.List 3 0 1000 ∷ query.List 3 2 1000 ∷ query.List 3 0 2 ∷ query.List 3 2 1000000 ∷ []))
+    ∷ (codes "basis 132\nunrank 3 340282366920938463463374607431768211455\nrank 2,1,3", script (w132 ∷ []) (query.Unrank 3 340282366920938463463374607431768211455 ∷ query.Rank (2 ∷ 1 ∷ 3 ∷ []) ∷ []))
+    ∷ (codes "basis 132\nunrank 3 340282366920938463463374607431768211456", fault 2 Range)
+    ∷ (codes "basis 132\nlist 3 for 2 from 1", fault 2 UnknownQuery)
     ∷ (codes "basis 132\ncount x", fault 2 BadNumber)
     ∷ (codes "basis 132\ncount 07", fault 2 BadNumber)
     ∷ (codes "basis 132\ncount 0", fault 2 Range)
-    ∷ (codes "basis 132\ncount 8", fault 2 Range)
+    ∷ (codes "basis 132\ncount 160\ncounts 160", script (w132 ∷ []) (query.Count 160 ∷ query.Counts 160 ∷ []))
     ∷ (codes "basis 132\ncount 161", fault 2 Range)
+    ∷ (codes "basis 132\ncounts 161", fault 2 Range)
     ∷ (codes "basis 132\ncount 340282366920938463463374607431768211456", fault 2 Range)
     ∷ (codes "basis 132\ntree 122", fault 2 BadWord)
     ∷ (codes "basis 132\ntree 1,2,,3", fault 2 BadWord)
@@ -62,7 +66,7 @@ table =
 
 -- each text of the table is what it says
 pub each_is_so : map (λ row. read row.0) table ≡ map (λ row. row.1) table
-unfolding read lines_said line_said tokens_said basis_said basis_words word_in entries_of checked_word is_digits is_numeral is_comma_form script_lines tokens query_of query_with query_with_one form_named number_in
+unfolding read lines_said line_said tokens_said basis_said basis_words word_in entries_of checked_word is_digits is_numeral is_comma_form script_lines tokens query_of query_with query_with_one query_with_two query_with_three query_with_five form_named number_in
 each_is_so = refl
 
 -- the first text, cut after each number of bytes
@@ -79,5 +83,5 @@ cuts =
 
 -- each cut is what the list says
 pub each_cut_is_so : map (λ k. read (take k (codes "basis 132\ncount 7\n"))) (counting 0 19) ≡ cuts
-unfolding read lines_said line_said tokens_said basis_said basis_words word_in entries_of checked_word is_digits is_numeral is_comma_form script_lines tokens query_of query_with query_with_one form_named number_in
+unfolding read lines_said line_said tokens_said basis_said basis_words word_in entries_of checked_word is_digits is_numeral is_comma_form script_lines tokens query_of query_with query_with_one query_with_two query_with_three query_with_five form_named number_in
 each_cut_is_so = refl

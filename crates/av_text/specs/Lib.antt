@@ -1,7 +1,6 @@
 -- What a script is, and what it says or why it is refused.
 pub mod Steps
 pub mod Kinds
-pub mod Limits
 pub mod Lines
 pub mod Numerals
 pub mod Words

@@ -1,46 +1,122 @@
 -- The queries of a script.
-use Rattle.std.specs.Prelude.{ℕ, List, [], ◌∷◌, Option, find, Result, Ok, Err, ok_or, codes}
+use Rattle.std.specs.Prelude.{ℕ, ◌-◌, ◌^◌, ◌<◌, ◌≤◌, Bool, ◌&&◌, if◌then◌else◌, List, [], ◌∷◌, Option, find, Result, Ok, Err, ok_or, codes, IsTrue}
+use Rattle.av_perm.specs.declared.limits.TheConstants.{MAX_LENGTH}
 use Rattle.av_perm.specs.Lists.{same}
+use Rattle.av_perm.specs.Word.{is_perm}
 use Rattle.av_text.specs.declared.kind.Kind.{Kind}
 use Rattle.av_text.specs.declared.kind.Kind.TheVariants.{UnknownQuery}
+use Rattle.av_text.specs.declared.limits.TheConstants.{MAX_LISTED, DEFAULT_LISTED}
 use Rattle.av_text.specs.declared.queries.Form.{Form}
 use Rattle.av_text.specs.declared.queries.Form.TheVariants as form
 use Rattle.av_text.specs.declared.queries.Query.{Query}
 use Rattle.av_text.specs.declared.queries.Query.TheVariants as query
 use Rattle.av_text.specs.Steps.{◌>>=◌}
-use Rattle.av_text.specs.Limits.{longest_word, longest_counted}
 use Rattle.av_text.specs.Numerals.{number_in}
 use Rattle.av_text.specs.Words.{word_in}
 
 -- the first token of a form
 abbrev pub form_name : Form → List ℕ
 form_name form.Count = codes "count"
+form_name form.Counts = codes "counts"
+form_name form.List = codes "list"
+form_name form.Unrank = codes "unrank"
+form_name form.Rank = codes "rank"
 form_name form.Tree = codes "tree"
 
 -- all forms
 abbrev pub forms : List Form
-forms = form.Count ∷ form.Tree ∷ []
+forms = form.Count ∷ form.Counts ∷ form.List ∷ form.Unrank ∷ form.Rank ∷ form.Tree ∷ []
 
 -- the form that a token names
 unfoldable pub form_named : List ℕ → Option Form
 form_named t = find (λ f. same (form_name f) t) forms
 
--- the length of `count`
+-- a length of a word
+abbrev pub IsLength : ℕ → Type 0
+IsLength n = (1 ≤ n) × (n ≤ MAX_LENGTH)
+
+-- such a length
 abbrev pub length_in : List ℕ → Result ℕ Kind
-length_in t = number_in 1 longest_counted t
+length_in t = number_in 1 MAX_LENGTH t
+
+-- a rank
+abbrev pub IsRank : ℕ → Type 0
+IsRank r = r < 2 ^ 128
+
+abbrev pub rank_in : List ℕ → Result ℕ Kind
+rank_in t = number_in 0 (2 ^ 128 - 1) t
+
+-- how many words are listed at most
+abbrev pub IsListed : ℕ → Type 0
+IsListed k = (1 ≤ k) × (k ≤ MAX_LISTED)
+
+abbrev pub listed_in : List ℕ → Result ℕ Kind
+listed_in t = number_in 1 MAX_LISTED t
+
+-- the tokens before a rank, and before a number of words
+abbrev pub is_from : List ℕ → Bool
+is_from t = same t (codes "from")
+
+abbrev pub is_for : List ℕ → Bool
+is_for t = same t (codes "for")
 
 -- the query of a form with one argument
 unfoldable pub query_with_one : Form → List ℕ → Result Query Kind
 query_with_one form.Count a = do
   n ← length_in a
   Ok (query.Count n)
+query_with_one form.Counts a = do
+  n ← length_in a
+  Ok (query.Counts n)
+query_with_one form.List a = do
+  n ← length_in a
+  Ok (query.List n 0 DEFAULT_LISTED)
+query_with_one form.Rank a = do
+  w ← word_in MAX_LENGTH a
+  Ok (query.Rank w)
 query_with_one form.Tree a = do
-  w ← word_in longest_word a
+  w ← word_in MAX_LENGTH a
   Ok (query.Tree w)
+query_with_one form.Unrank a = Err UnknownQuery
+
+-- with two
+unfoldable pub query_with_two : Form → List ℕ → List ℕ → Result Query Kind
+query_with_two form.Unrank a b = do
+  n ← length_in a
+  r ← rank_in b
+  Ok (query.Unrank n r)
+query_with_two _ a b = Err UnknownQuery
+
+-- with three
+unfoldable pub query_with_three : Form → List ℕ → List ℕ → List ℕ → Result Query Kind
+query_with_three form.List a b c =
+    if is_from b then (do
+      n ← length_in a
+      r ← rank_in c
+      Ok (query.List n r DEFAULT_LISTED))
+    else (if is_for b then (do
+      n ← length_in a
+      k ← listed_in c
+      Ok (query.List n 0 k)) else Err UnknownQuery)
+query_with_three _ a b c = Err UnknownQuery
+
+-- with five
+unfoldable pub query_with_five : Form → List ℕ → List ℕ → List ℕ → List ℕ → List ℕ → Result Query Kind
+query_with_five form.List a b c d e =
+    if is_from b && is_for d then (do
+      n ← length_in a
+      r ← rank_in c
+      k ← listed_in e
+      Ok (query.List n r k))
+    else Err UnknownQuery
+query_with_five _ a b c d e = Err UnknownQuery
 
 -- the query of a form with these arguments; no form has another number of them
 unfoldable pub query_with : Form → List (List ℕ) → Result Query Kind
 query_with f (a ∷ []) = query_with_one f a
+query_with f (a ∷ b ∷ []) = query_with_two f a b
+query_with f (a ∷ b ∷ c ∷ []) = query_with_three f a b c
+query_with f (a ∷ b ∷ c ∷ d ∷ e ∷ []) = query_with_five f a b c d e
 query_with f _ = Err UnknownQuery
 
 -- the query of a line's first token and those that follow it
@@ -48,3 +124,12 @@ unfoldable pub query_of : List ℕ → List (List ℕ) → Result Query Kind
 query_of t args = do
   f ← ok_or (form_named t) UnknownQuery
   query_with f args
+
+-- the numbers and words of a query are in their ranges
+abbrev pub IsInRange : Query → Type 0
+IsInRange (query.Count n) = IsLength n
+IsInRange (query.Counts n) = IsLength n
+IsInRange (query.List n r k) = IsLength n × IsRank r × IsListed k
+IsInRange (query.Unrank n r) = IsLength n × IsRank r
+IsInRange (query.Rank w) = IsTrue (is_perm w)
+IsInRange (query.Tree w) = IsTrue (is_perm w)

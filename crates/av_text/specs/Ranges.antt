@@ -1,23 +1,24 @@
--- What holds of each script that is read.
+-- What holds of each line and of each script that is read.
 use Rattle.std.specs.Prelude.{ℕ, ◌≤◌, List, length, All, IsTrue}
+use Rattle.av_perm.specs.declared.limits.TheConstants.{MAX_PATTERN_LENGTH}
 use Rattle.av_perm.specs.Word.{is_perm}
-use Rattle.av_text.specs.declared.queries.Query.{Query}
-use Rattle.av_text.specs.declared.queries.Query.TheVariants as query
+use Rattle.av_text.specs.declared.limits.TheConstants.{MAX_BASIS_WORDS}
+use Rattle.av_text.specs.declared.says.Says.{Says}
+use Rattle.av_text.specs.declared.says.Says.TheVariants.{Asks}
 use Rattle.av_text.specs.declared.script.Script.{Script}
-use Rattle.av_text.specs.Limits.{most_basis_words, longest_basis_word, longest_counted}
+use Rattle.av_text.specs.Queries.{IsInRange}
 
--- the numbers and words of a query are in their ranges
-abbrev pub IsInRange : Query → Type 0
-IsInRange (query.Count n) = (1 ≤ n) × (n ≤ longest_counted)
-IsInRange (query.Tree w) = IsTrue (is_perm w)
+-- the query of a line is in range
+abbrev pub AsksInRange : Says → Type 0
+AsksInRange (Asks q) = IsInRange q
+AsksInRange _ = Unit {0}
 
 -- a word that may stand in the basis line
 pub record IsBasisWord (w : List ℕ) : Type 0 where
   pub word : IsTrue (is_perm w)
-  pub short : length w ≤ longest_basis_word
+  pub short : length w ≤ MAX_PATTERN_LENGTH
 
--- the basis and the queries keep the limits
+-- the basis keeps the limits
 pub record KeepsLimits (script : Script) : Type 0 where
-  pub few : length script.basis ≤ most_basis_words
+  pub few : length script.basis ≤ MAX_BASIS_WORDS
   pub words : All IsBasisWord script.basis
-  pub queries : All IsInRange script.queries

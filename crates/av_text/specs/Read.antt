@@ -1,15 +1,17 @@
 -- What a script says, or its fault.
-use Rattle.std.specs.Prelude.{ℕ, suc, Bool, true, false, ◌||◌, List, [], ◌∷◌, length, nat_eq, nat_lt, if◌then◌else◌, Option, Some, None, Result, Ok, Err, codes}
+use Rattle.std.specs.Prelude.{ℕ, suc, Bool, true, false, List, [], ◌∷◌, length, nat_eq, nat_lt, if◌then◌else◌, Option, Some, None, Result, Ok, Err, codes}
 use Rattle.std.specs.List.{list_all, filter_map, starts_with}
+use Rattle.av_perm.specs.declared.limits.TheConstants.{MAX_PATTERN_LENGTH}
 use Rattle.av_perm.specs.Lists.{same}
 use Rattle.av_text.specs.declared.kind.Kind.{Kind}
 use Rattle.av_text.specs.declared.kind.Kind.TheVariants.{NoBasis, ManyWords, TooLong, BadByte, SecondBasis}
 use Rattle.av_text.specs.declared.queries.Query.{Query}
+use Rattle.av_text.specs.declared.limits.TheConstants.{MAX_SCRIPT_BYTES, MAX_BASIS_WORDS}
 use Rattle.av_text.specs.declared.says.Says.{Says}
 use Rattle.av_text.specs.declared.says.Says.TheVariants.{Nothing, Basis, Asks}
+use Rattle.av_text.specs.declared.says.Seen.{Seen}
 use Rattle.av_text.specs.declared.script.Script.{Script}
 use Rattle.av_text.specs.Steps.{◌>>=◌}
-use Rattle.av_text.specs.Limits.{most_bytes, most_basis_words, longest_basis_word}
 use Rattle.av_text.specs.Lines.{script_lines, is_allowed, tokens}
 use Rattle.av_text.specs.Words.{word_in}
 use Rattle.av_text.specs.Queries.{query_of}
@@ -18,15 +20,15 @@ use Rattle.av_text.specs.Queries.{query_of}
 unfoldable pub basis_words : List (List ℕ) → Result (List (List ℕ)) Kind
 basis_words [] = Ok []
 basis_words (t ∷ ts) = do
-  w ← word_in longest_basis_word t
+  w ← word_in MAX_PATTERN_LENGTH t
   ws ← basis_words ts
   Ok (w ∷ ws)
 
--- what a basis line says, where an earlier line was one or not
-unfoldable pub basis_said : Bool → List (List ℕ) → Result Says Kind
-basis_said earlier ts =
-    if earlier then Err SecondBasis
-    else (if nat_lt most_basis_words (length ts) then Err ManyWords else (do
+-- what a basis line says, after lines that said what was seen
+unfoldable pub basis_said : Seen → List (List ℕ) → Result Says Kind
+basis_said seen ts =
+    if seen.basis then Err SecondBasis
+    else (if nat_lt MAX_BASIS_WORDS (length ts) then Err ManyWords else (do
       ws ← basis_words ts
       Ok (Basis ws)))
 
@@ -38,18 +40,18 @@ is_comment t = starts_with nat_eq t (codes "#")
 abbrev pub is_basis : List ℕ → Bool
 is_basis t = same t (codes "basis")
 
--- what the tokens of a line say, where an earlier line was a basis line or not
-unfoldable pub tokens_said : Bool → List (List ℕ) → Result Says Kind
-tokens_said earlier [] = Ok Nothing
-tokens_said earlier (t ∷ ts) =
+-- what the tokens of a line say, after lines that said what was seen
+unfoldable pub tokens_said : Seen → List (List ℕ) → Result Says Kind
+tokens_said seen [] = Ok Nothing
+tokens_said seen (t ∷ ts) =
     if is_comment t then Ok Nothing
-    else (if is_basis t then basis_said earlier ts else (do
+    else (if is_basis t then basis_said seen ts else (do
       q ← query_of t ts
       Ok (Asks q)))
 
--- what a line says, where an earlier line was a basis line or not
-unfoldable pub line_said : Bool → List ℕ → Result Says Kind
-line_said earlier line = if list_all is_allowed line then tokens_said earlier (tokens line) else Err BadByte
+-- what a line says, after lines that said what was seen
+unfoldable pub line_said : Seen → List ℕ → Result Says Kind
+line_said seen line = if list_all is_allowed line then tokens_said seen (tokens line) else Err BadByte
 
 -- the line and the kind of the first fault; line 0 is the text as a whole
 pub record Fault : Type 0 where
@@ -71,17 +73,21 @@ abbrev pub query_in : Says → Option Query
 query_in (Asks q) = Some q
 query_in _ = None
 
--- the line is a basis line
-abbrev pub says_basis : Says → Bool
-says_basis (Basis ws) = true
-says_basis _ = false
+-- nothing was seen before the first line
+abbrev pub unseen : Seen
+unseen = record { basis = false }
 
--- what the lines from number n on say, where an earlier line was a basis line or not; or the fault of the first line that has one
-unfoldable pub lines_said : ℕ → Bool → List (List ℕ) → Result (List Says) Fault
-lines_said n earlier [] = Ok []
-lines_said n earlier (l ∷ ls) = do
-  said ← at_line n (line_said earlier l)
-  more ← lines_said (suc n) (earlier || says_basis said) ls
+-- what was seen after one line more
+abbrev pub after : Seen → Says → Seen
+after seen (Basis ws) = record { basis = true }
+after seen _ = seen
+
+-- what the lines from number n on say, after lines that said what was seen; or the fault of the first line that has one
+unfoldable pub lines_said : ℕ → Seen → List (List ℕ) → Result (List Says) Fault
+lines_said n seen [] = Ok []
+lines_said n seen (l ∷ ls) = do
+  said ← at_line n (line_said seen l)
+  more ← lines_said (suc n) (after seen said) ls
   Ok (said ∷ more)
 
 -- the script with the basis of the basis line, and these queries
@@ -96,7 +102,7 @@ script_of said = script_with (filter_map basis_in said) (filter_map query_in sai
 -- the script that a text is, or its fault
 unfoldable pub read : List ℕ → Result Script Fault
 read bytes =
-    if nat_lt most_bytes (length bytes) then Err (record { line = 0; kind = TooLong })
+    if nat_lt MAX_SCRIPT_BYTES (length bytes) then Err (record { line = 0; kind = TooLong })
     else (do
-      said ← lines_said 1 false (script_lines bytes)
+      said ← lines_said 1 unseen (script_lines bytes)
       script_of said)

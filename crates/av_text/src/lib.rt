@@ -7,7 +7,13 @@
 //! | line | what it says |
 //! |---|---|
 //! | `basis W1 .. Wk` | the basis: 0 to 64 words of at most 12 entries. One line, anywhere, is the basis line |
-//! | `count N` | a query: how many words of length N the class has, for N from 1 to 7 |
+//! | `count N` | a query: how many words of length N the class has, for N from 1 to 160 |
+//! | `counts N` | a query: how many words of each length from 1 to N the class has, for N from 1 to 160 |
+//! | `list N` | a query: the words of length N of the class, in order of rank |
+//! | `list N from R` | the same from rank R on, for R from 0 to 2^128 - 1. Without `from` it is 0 |
+//! | `list N for K`, `list N from R for K` | the same, K of them at most, for K from 1 to 1,000,000. Without `for` it is 1,000 |
+//! | `unrank N R` | a query: the word of length N and rank R |
+//! | `rank W` | a query: the rank of the word W of at most 160 entries |
 //! | `tree W` | a query: how the word W of at most 160 entries is put together from simple ones |
 //! | no token, or a first token that begins with `#` | nothing |
 //!
@@ -24,6 +30,7 @@
 #![tactic(auto)]
 
 mod kind;
+mod limits;
 mod lines;
 mod numerals;
 mod queries;
@@ -33,8 +40,9 @@ mod tokens;
 mod words;
 
 pub use kind::Kind;
+pub use limits::{DEFAULT_LISTED, MAX_BASIS_WORDS, MAX_LISTED, MAX_SCRIPT_BYTES};
 pub use numerals::number_in;
-pub use queries::Query;
+pub use queries::{Form, Query};
 pub use script::{Queries, Script, ScriptError, read_script};
 
 #[cfg(test)]

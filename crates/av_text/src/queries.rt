@@ -1,18 +1,28 @@
 // Queries.
-ghost use Rattle.std.specs.Prelude.{◌≡◌, map};
+ghost use Rattle.std.specs.Prelude.{◌≡◌, ◌≤◌, map, IfOk};
 ghost use Rattle.av_perm.specs.Lists.{same};
-ghost use Rattle.av_text.specs.Queries.{form_name, form_named, length_in, query_with_one, query_with, query_of};
+ghost use Rattle.av_text.specs.Queries.{form_name, form_named, IsLength, IsRank, IsListed, length_in, rank_in, listed_in, is_from, is_for, query_with_one, query_with_two, query_with_three, query_with_five, query_with, query_of, IsInRange};
 
 use crate::Kind;
+use crate::limits::{DEFAULT_LISTED, MAX_LISTED};
 use crate::numerals::number_in;
-use crate::words::{LONGEST_WORD, word_in};
-use av_perm::Perm;
+use crate::words::word_in;
+use av_perm::{MAX_LENGTH, Perm};
 
 /// The forms of a query, each named by its first token.
 #[derive(Clone, Copy, Debug, PartialEq, Eq)]
 pub enum Form {
-    /// `count N`, with N from 1 to 7.
+    /// `count N`, with N from 1 to 160.
     Count,
+    /// `counts N`, with N from 1 to 160.
+    Counts,
+    /// `list N`, with N from 1 to 160, and after it `from R`, with R from 0 to 2^128 - 1, and `for K`, with K from 1 to
+    /// 1,000,000: each may be left out.
+    List,
+    /// `unrank N R`, with N from 1 to 160 and R from 0 to 2^128 - 1.
+    Unrank,
+    /// `rank W`, with W a word of at most 160 entries.
+    Rank,
     /// `tree W`, with W a word of at most 160 entries.
     Tree,
 }
@@ -22,8 +32,34 @@ pub enum Form {
 pub enum Query {
     /// How many words of length `n` the class has.
     Count {
-        /// The length, from 1 to 7.
+        /// The length, from 1 to 160.
         n: u8,
+    },
+    /// How many words of each length from 1 to `n` the class has.
+    Counts {
+        /// The greatest length, from 1 to 160.
+        n: u8,
+    },
+    /// The words of length `n` of the class, in order of rank.
+    List {
+        /// The length, from 1 to 160.
+        n: u8,
+        /// The rank of the first one.
+        start: u128,
+        /// How many at most, from 1 to 1,000,000.
+        many: u32,
+    },
+    /// The word of length `n` and rank `r` of the class.
+    Unrank {
+        /// The length, from 1 to 160.
+        n: u8,
+        /// The rank.
+        r: u128,
+    },
+    /// The rank of a word in the class.
+    Rank {
+        /// The word, of length 1 to 160.
+        word: Perm,
     },
     /// How a word is put together from simple ones, in the class or not.
     Tree {
@@ -32,10 +68,14 @@ pub enum Query {
     },
 }
 
-const FORMS: [Form; 2] = [Form::Count, Form::Tree];
-
-/// The greatest length at which a query counts.
-const LONGEST_COUNTED: u128 = 7;
+const FORMS: [Form; 6] = [
+    Form::Count,
+    Form::Counts,
+    Form::List,
+    Form::Unrank,
+    Form::Rank,
+    Form::Tree,
+];
 
 impl Form {
     /// The token that names the form.
@@ -44,46 +84,154 @@ impl Form {
     {
         match self {
             Form::Count => b"count",
+            Form::Counts => b"counts",
+            Form::List => b"list",
+            Form::Unrank => b"unrank",
+            Form::Rank => b"rank",
             Form::Tree => b"tree",
         }
     }
 
     /// The form that a token names.
-    #[tactic(auto, unfolding(crate::specs::Queries::form_named))]
     fn named(token: &[u8]) -> Option<Form>
         ensures { result ≡ form_named token.now }
     {
-        FORMS.into_iter().find(|form| form.name() == token)
+        FORMS.iter().copied().find(|form| form.name() == token)
     }
 }
 
-/// A length at which a query counts.
+/// A length.
 fn length_in(token: &[u8]) -> Result<u8, Kind>
-    ensures { result ≡ length_in token.now }
+    ensures value { result ≡ length_in token.now }
+    ensures range { IfOk result IsLength }
 {
-    Ok(number_in(token, 1, LONGEST_COUNTED)? as u8)
+    Ok(number_in(token, 1, MAX_LENGTH as u128)? as u8)
+}
+
+/// A rank.
+fn rank_in(token: &[u8]) -> Result<u128, Kind>
+    ensures value { result ≡ rank_in token.now }
+    ensures range { IfOk result IsRank }
+{
+    number_in(token, 0, u128::MAX)
+}
+
+/// How many words are listed at most.
+fn listed_in(token: &[u8]) -> Result<u32, Kind>
+    ensures value { result ≡ listed_in token.now }
+    ensures range { IfOk result IsListed }
+{
+    Ok(number_in(token, 1, MAX_LISTED as u128)? as u32)
+}
+
+/// Whether a rank stands after the token.
+fn is_from(token: &[u8]) -> bool
+    ensures { result ≡ is_from token.now }
+{
+    token == b"from".as_slice()
+}
+
+/// Whether a number of words stands after the token.
+fn is_for(token: &[u8]) -> bool
+    ensures { result ≡ is_for token.now }
+{
+    token == b"for".as_slice()
 }
 
 /// The query of a form with one argument.
 #[tactic(auto, unfolding(crate::specs::Queries::query_with_one))]
 fn query_with_one(form: Form, a: &[u8]) -> Result<Query, Kind>
-    ensures { result ≡ query_with_one form a.now }
+    ensures value { result ≡ query_with_one form a.now }
+    ensures range { IfOk result IsInRange }
 {
     match form {
         Form::Count => Ok(Query::Count { n: length_in(a)? }),
-        Form::Tree => Ok(Query::Tree {
-            word: word_in(a, LONGEST_WORD)?,
+        Form::Counts => Ok(Query::Counts { n: length_in(a)? }),
+        Form::List => Ok(Query::List {
+            n: length_in(a)?,
+            start: 0,
+            many: DEFAULT_LISTED,
         }),
+        Form::Rank => Ok(Query::Rank {
+            word: word_in(a, MAX_LENGTH)?,
+        }),
+        Form::Tree => Ok(Query::Tree {
+            word: word_in(a, MAX_LENGTH)?,
+        }),
+        _ => Err(Kind::UnknownQuery),
+    }
+}
+
+/// The query of a form with two arguments.
+#[tactic(auto, unfolding(crate::specs::Queries::query_with_two))]
+fn query_with_two(form: Form, a: &[u8], b: &[u8]) -> Result<Query, Kind>
+    ensures value { result ≡ query_with_two form a.now b.now }
+    ensures range { IfOk result IsInRange }
+{
+    match form {
+        Form::Unrank => Ok(Query::Unrank {
+            n: length_in(a)?,
+            r: rank_in(b)?,
+        }),
+        _ => Err(Kind::UnknownQuery),
+    }
+}
+
+/// The query of a form with three arguments.
+#[tactic(auto, unfolding(crate::specs::Queries::query_with_three))]
+fn query_with_three(form: Form, a: &[u8], b: &[u8], c: &[u8]) -> Result<Query, Kind>
+    ensures value { result ≡ query_with_three form a.now b.now c.now }
+    ensures range { IfOk result IsInRange }
+{
+    match form {
+        Form::List if is_from(b) => Ok(Query::List {
+            n: length_in(a)?,
+            start: rank_in(c)?,
+            many: DEFAULT_LISTED,
+        }),
+        Form::List if is_for(b) => Ok(Query::List {
+            n: length_in(a)?,
+            start: 0,
+            many: listed_in(c)?,
+        }),
+        _ => Err(Kind::UnknownQuery),
+    }
+}
+
+/// The query of a form with five arguments.
+#[tactic(auto, unfolding(crate::specs::Queries::query_with_five))]
+fn query_with_five(
+    form: Form,
+    a: &[u8],
+    b: &[u8],
+    c: &[u8],
+    d: &[u8],
+    e: &[u8],
+) -> Result<Query, Kind>
+    ensures value { result ≡ query_with_five form a.now b.now c.now d.now e.now }
+    ensures range { IfOk result IsInRange }
+{
+    match form {
+        Form::List if is_from(b) && is_for(d) => Ok(Query::List {
+            n: length_in(a)?,
+            start: rank_in(c)?,
+            many: listed_in(e)?,
+        }),
+        _ => Err(Kind::UnknownQuery),
     }
 }
 
 /// The query of a form with these arguments. No form has another number of them.
 #[tactic(auto, unfolding(crate::specs::Queries::query_with))]
 fn query_with(form: Form, arguments: &[&[u8]]) -> Result<Query, Kind>
-    ensures { result ≡ query_with form (map (λ t. t.now) arguments.now) }
+    ensures value { result ≡ query_with form (map (λ t. t.now) arguments.now) }
+    ensures range { IfOk result IsInRange }
 {
     match arguments {
         [a] => query_with_one(form, a),
+        [a, b] => query_with_two(form, a, b),
+        [a, b, c] => query_with_three(form, a, b, c),
+        [a, b, c, d, e] => query_with_five(form, a, b, c, d, e),
         _ => Err(Kind::UnknownQuery),
     }
 }
@@ -91,7 +239,8 @@ fn query_with(form: Form, arguments: &[&[u8]]) -> Result<Query, Kind>
 /// The query of a line's first token and those that follow it.
 #[tactic(auto, unfolding(crate::specs::Queries::query_of))]
 pub fn query_of(first: &[u8], arguments: &[&[u8]]) -> Result<Query, Kind>
-    ensures { result ≡ query_of first.now (map (λ t. t.now) arguments.now) }
+    ensures value { result ≡ query_of first.now (map (λ t. t.now) arguments.now) }
+    ensures range { IfOk result IsInRange }
 {
     let form = Form::named(first).ok_or(Kind::UnknownQuery)?;
     query_with(form, arguments)

@@ -1,20 +1,23 @@
 // What a line of a script says.
-ghost use Rattle.std.specs.Prelude.{◌≡◌, map};
+ghost use Rattle.std.specs.Prelude.{◌≡◌, map, IfOk};
 ghost use Rattle.av_text.specs.Read.{basis_words, basis_said, is_comment, is_basis, tokens_said, line_said};
 ghost use Rattle.av_text.specs.Answers.{Gives};
+ghost use Rattle.av_text.specs.Ranges.{AsksInRange};
 
 use crate::Kind;
+use crate::limits::MAX_BASIS_WORDS;
 use crate::queries::{Query, query_of};
 use crate::tokens::{all_allowed, tokens};
 use crate::words::word_in;
-use av_perm::{Memory, Words};
+use av_perm::{MAX_PATTERN_LENGTH, Memory, Words};
 use std::alloc::{AllocError, Global};
 
-/// The most words of the basis line.
-const MOST_BASIS_WORDS: usize = 64;
-
-/// The most entries of a word of the basis line.
-const LONGEST_BASIS_WORD: usize = 12;
+/// What the lines so far have said.
+#[derive(Clone, Copy)]
+pub struct Seen {
+    /// A line was a basis line.
+    pub basis: bool,
+}
 
 /// What a line says.
 #[derive(Drop)]
@@ -72,21 +75,22 @@ fn basis_words(alloc: Global, tokens: &[&[u8]]) -> Result<Words, LineFault>
 {
     let mut basis = Words::empty(alloc);
     for token in tokens {
-        let word = word_in(token, LONGEST_BASIS_WORD)?;
+        let word = word_in(token, MAX_PATTERN_LENGTH)?;
         basis.push(word)?;
     }
     Ok(basis)
 }
 
-/// What a basis line says, where an earlier line was one or not.
+/// What a basis line says, after lines that said what was seen.
 #[tactic(auto, unfolding(crate::specs::Read::basis_said))]
-fn basis_said(alloc: Global, earlier: bool, tokens: &[&[u8]]) -> Result<Says, LineFault>
-    ensures { Gives result (basis_said earlier (map (λ t. t.now) tokens.now)) }
+fn basis_said(alloc: Global, seen: Seen, tokens: &[&[u8]]) -> Result<Says, LineFault>
+    ensures value { Gives result (basis_said seen (map (λ t. t.now) tokens.now)) }
+    ensures range { IfOk result AsksInRange }
 {
-    if earlier {
+    if seen.basis {
         return Err(LineFault::Refused(Kind::SecondBasis));
     }
-    if tokens.len() > MOST_BASIS_WORDS {
+    if tokens.len() > MAX_BASIS_WORDS {
         return Err(LineFault::Refused(Kind::ManyWords));
     }
     Ok(Says::Basis(basis_words(alloc, tokens)?))
@@ -106,27 +110,29 @@ fn is_basis(token: &[u8]) -> bool
     token == b"basis".as_slice()
 }
 
-/// What the tokens of a line say, where an earlier line was a basis line or not.
+/// What the tokens of a line say, after lines that said what was seen.
 #[tactic(auto, unfolding(crate::specs::Read::tokens_said))]
-fn tokens_said(alloc: Global, earlier: bool, tokens: &[&[u8]]) -> Result<Says, LineFault>
-    ensures { Gives result (tokens_said earlier (map (λ t. t.now) tokens.now)) }
+fn tokens_said(alloc: Global, seen: Seen, tokens: &[&[u8]]) -> Result<Says, LineFault>
+    ensures value { Gives result (tokens_said seen (map (λ t. t.now) tokens.now)) }
+    ensures range { IfOk result AsksInRange }
 {
     match tokens {
         [] => Ok(Says::Nothing),
         [first, ..] if is_comment(first) => Ok(Says::Nothing),
-        [first, words @ ..] if is_basis(first) => basis_said(alloc, earlier, words),
+        [first, words @ ..] if is_basis(first) => basis_said(alloc, seen, words),
         [first, arguments @ ..] => Ok(Says::Asks(query_of(first, arguments)?)),
     }
 }
 
-/// What a line says, where an earlier line was a basis line or not.
+/// What a line says, after lines that said what was seen.
 #[tactic(auto, unfolding(crate::specs::Read::line_said))]
-pub fn line_said(alloc: Global, earlier: bool, line: &[u8]) -> Result<Says, LineFault>
-    ensures { Gives result (line_said earlier line.now) }
+pub fn line_said(alloc: Global, seen: Seen, line: &[u8]) -> Result<Says, LineFault>
+    ensures value { Gives result (line_said seen line.now) }
+    ensures range { IfOk result AsksInRange }
 {
     if !all_allowed(line) {
         return Err(LineFault::Refused(Kind::BadByte));
     }
     let tokens = tokens(alloc, line)?;
-    tokens_said(alloc, earlier, &tokens)
+    tokens_said(alloc, seen, &tokens)
 }

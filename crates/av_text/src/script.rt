@@ -1,30 +1,36 @@
 // Scripts.
-ghost use Rattle.std.specs.Prelude.{◌≡◌, ◌<◌, List, [], ◌∷◌, ◌++◌, length, slice_get, Some, OnOk, OnErr, IfOk};
+ghost use Rattle.std.specs.Prelude.{◌≡◌, ◌<◌, List, [], ◌∷◌, ◌++◌, length, slice_get, Some, OnOk, OnErr, IfOk, All};
 ghost use Rattle.av_text.specs.Read.{line_said, at_line, read};
-ghost use Rattle.av_text.specs.Ranges.{KeepsLimits};
+ghost use Rattle.av_text.specs.Queries.{IsInRange};
+ghost use Rattle.av_text.specs.Ranges.{AsksInRange, KeepsLimits};
 ghost use Rattle.av_text.specs.Answers.{GivesScript};
 
 use crate::Kind;
+use crate::limits::MAX_SCRIPT_BYTES;
 use crate::lines::Lines;
 use crate::queries::Query;
-use crate::says::{LineFault, Says, line_said};
+use crate::says::{LineFault, Says, Seen, line_said};
 use av_perm::{Memory, Words};
 use std::alloc::Global;
 use std::marker::Model;
 
-/// A list of queries, on an allocator of its own.
+/// A list of queries, each in its range, on an allocator of its own.
 #[derive(Drop)]
 pub struct Queries {
     items: Vec<Query>,
 }
 
 impl Model for Queries {
-    ghost use Rattle.std.specs.Prelude.{List};
+    ghost use Rattle.std.specs.Prelude.{List, All};
     ghost use Rattle.av_text.specs.declared.queries.Query.{Query};
 
     ghost Value = { List Query };
 
+    ghost use Rattle.av_text.specs.Queries.{IsInRange};
+
     ghost view = { λ q. q.items.items };
+
+    ghost invariant = { λ q. All IsInRange q.items.items };
 }
 
 impl Queries {
@@ -39,7 +45,8 @@ impl Queries {
 
     /// The number of queries.
     pub fn len(&self) -> usize
-        ensures { result ≡ length self.now }
+        ensures value { result ≡ length self.now }
+        ensures range { All IsInRange self.now }
     {
         self.items.len()
     }
@@ -47,20 +54,23 @@ impl Queries {
     /// The query at an index, from 0 on.
     pub fn get(&self, i: usize) -> &Query
         requires { i < length self.now }
-        ensures { slice_get self.now i ≡ Some result.now }
+        ensures value { slice_get self.now i ≡ Some result.now }
+        ensures range { IsInRange result.now }
     {
         &self.items[i]
     }
 
     /// Its queries.
     pub fn as_slice(&self) -> &[Query]
-        ensures { result.now ≡ self.now }
+        ensures value { result.now ≡ self.now }
+        ensures range { All IsInRange self.now }
     {
         &self.items
     }
 
-    /// Appends a query. After `Memory` the list is as before, and the query is dropped.
+    /// Appends a query that is in its range. After `Memory` the list is as before, and the query is dropped.
     pub fn push(&mut self, query: Query) -> Result<(), Memory>
+        requires { IsInRange query }
         ensures ok { OnOk result (self.new ≡ self.old ++ query ∷ []) }
         ensures err { OnErr result (self.new ≡ self.old) }
     {
@@ -103,28 +113,26 @@ impl From<Memory> for ScriptError {
     }
 }
 
-/// What a line with this number says, where an earlier line was a basis line or not.
-fn line_at(alloc: Global, number: u32, earlier: bool, line: &[u8]) -> Result<Says, ScriptError>
-    ensures { GivesScript result (at_line number (line_said earlier line.now)) }
+/// What a line with this number says, after lines that said what was seen.
+fn line_at(alloc: Global, number: u32, seen: Seen, line: &[u8]) -> Result<Says, ScriptError>
+    ensures value { GivesScript result (at_line number (line_said seen line.now)) }
+    ensures range { IfOk result AsksInRange }
 {
-    match line_said(alloc, earlier, line) {
+    match line_said(alloc, seen, line) {
         Ok(said) => Ok(said),
         Err(LineFault::Memory) => Err(ScriptError::Memory),
         Err(LineFault::Refused(kind)) => Err(ScriptError::Refused { line: number, kind }),
     }
 }
 
-/// The most bytes of a script.
-const MOST_BYTES: usize = 65_536;
-
 /// The script that a text is. `Refused` comes exactly where the text is none, with the line and the kind of its first
 /// fault. `Memory` comes only for want of memory. Every script that is read keeps the limits of the grammar: at most 64
-/// basis words of at most 12 entries, and each number and each word of a query in its range.
+/// basis words of at most 12 entries, and, as [`Queries`] tells, each number and each word of a query in its range.
 pub fn read_script(alloc: Global, bytes: &[u8]) -> Result<Script, ScriptError>
     ensures script { GivesScript result (read bytes.now) }
     ensures limits { IfOk result KeepsLimits }
 {
-    if bytes.len() > MOST_BYTES {
+    if bytes.len() > MAX_SCRIPT_BYTES {
         return Err(ScriptError::Refused {
             line: 0,
             kind: Kind::TooLong,
@@ -136,7 +144,10 @@ pub fn read_script(alloc: Global, bytes: &[u8]) -> Result<Script, ScriptError>
     let mut number: u32 = 0;
     while let Some(line) = lines.next_line() {
         number += 1;
-        match line_at(alloc, number, basis.is_some(), line)? {
+        let seen = Seen {
+            basis: basis.is_some(),
+        };
+        match line_at(alloc, number, seen, line)? {
             Says::Nothing => {}
             Says::Basis(words) => basis = Some(words),
             Says::Asks(query) => queries.push(query)?,

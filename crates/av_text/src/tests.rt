@@ -1,7 +1,7 @@
 use super::*;
 
 /// Texts that are refused, each with the line and the kind of its fault.
-static REFUSED: [(&str, u32, Kind); 65] = [
+static REFUSED: [(&str, u32, Kind); 86] = [
     // No basis line.
     ("", 0, Kind::NoBasis),
     ("\n", 0, Kind::NoBasis),
@@ -27,6 +27,8 @@ static REFUSED: [(&str, u32, Kind); 65] = [
     ("basis 132\ntree 0", 2, Kind::BadWord),
     ("basis 132\ntree 122", 2, Kind::BadWord),
     ("basis 132\ntree 1,2,,3", 2, Kind::BadWord),
+    ("basis 132\nrank 122", 2, Kind::BadWord),
+    ("basis 132\nrank 1,2,,3", 2, Kind::BadWord),
     (
         "basis 132\ntree 111111111111111111111111111111111111111111111111111111111111111111111111111111111111111111\
          1111111111111111111111111111111111111111111111111111111111111111111111",
@@ -63,19 +65,46 @@ static REFUSED: [(&str, u32, Kind); 65] = [
     ("basis 132\ncount 7 7", 2, Kind::UnknownQuery),
     ("basis 132\ncount x y", 2, Kind::UnknownQuery),
     ("basis 132\ncount 7 # all", 2, Kind::UnknownQuery),
+    ("basis 132\ncounts", 2, Kind::UnknownQuery),
+    ("basis 132\ncounts 7 7", 2, Kind::UnknownQuery),
     ("basis 132\ntree", 2, Kind::UnknownQuery),
     ("basis 132\ntree 1 2", 2, Kind::UnknownQuery),
     ("basis 132\n7", 2, Kind::UnknownQuery),
-    ("basis 132\nunrank 3 99", 2, Kind::UnknownQuery),
+    ("basis 132\nlist", 2, Kind::UnknownQuery),
+    ("basis 132\nlist 3 from", 2, Kind::UnknownQuery),
+    ("basis 132\nlist 3 by 2", 2, Kind::UnknownQuery),
+    ("basis 132\nlist 3 for 2 from 1", 2, Kind::UnknownQuery),
+    ("basis 132\nlist x from 2 for", 2, Kind::UnknownQuery),
+    ("basis 132\nunrank 3", 2, Kind::UnknownQuery),
+    ("basis 132\ndraw 3 1 1", 2, Kind::UnknownQuery),
     // Arguments that are no number.
     ("basis 132\ncount x", 2, Kind::BadNumber),
     ("basis 132\ncount 07", 2, Kind::BadNumber),
     ("basis 132\ncount 00", 2, Kind::BadNumber),
     ("basis 132\ncount +7", 2, Kind::BadNumber),
     ("basis 132\ncount 7.", 2, Kind::BadNumber),
+    ("basis 132\ncounts 007", 2, Kind::BadNumber),
+    ("basis 132\ncounts 2,1", 2, Kind::BadNumber),
+    ("basis 132\nunrank 3 x", 2, Kind::BadNumber),
+    ("basis 132\nlist 3 from 01 for 0", 2, Kind::BadNumber),
     // Numbers out of range.
     ("basis 132\ncount 0", 2, Kind::Range),
-    ("basis 132\ncount 8", 2, Kind::Range),
+    ("basis 132\ncount 161", 2, Kind::Range),
+    ("basis 132\ncounts 0", 2, Kind::Range),
+    ("basis 132\ncounts 161", 2, Kind::Range),
+    ("basis 132\nlist 3 for 0", 2, Kind::Range),
+    ("basis 132\nlist 3 for 1000001", 2, Kind::Range),
+    (
+        "basis 132\nlist 3 from 340282366920938463463374607431768211456",
+        2,
+        Kind::Range,
+    ),
+    (
+        "basis 132\nunrank 3 340282366920938463463374607431768211456",
+        2,
+        Kind::Range,
+    ),
+    ("basis 132\nunrank 0 x", 2, Kind::Range),
     (
         "basis 132\ncount 340282366920938463463374607431768211457",
         2,
@@ -100,16 +129,17 @@ static REFUSED: [(&str, u32, Kind); 65] = [
     // The first line that has a fault.
     ("cuont 7\nbasis 0", 1, Kind::UnknownQuery),
     ("basis 0\ncount \x07", 1, Kind::BadWord),
-    ("count 8\ncount x\n", 1, Kind::Range),
+    ("count 161\ncount x\n", 1, Kind::Range),
 ];
 
 /// Texts that are scripts.
-const ACCEPTED: [&str; 8] = [
+const ACCEPTED: [&str; 9] = [
     "basis",
     "basis\n",
     "basis 132\r",
     "\n \t \r\n#\n# note\n\tbasis\t1  \ncount 1",
     "count 7\n#note\nbasis 1,3,2 132",
+    "basis 132\ncount 160\ncounts 160",
     "basis 12,11,10,9,8,7,6,5,4,3,2,1 2,1",
     "basis 132\r\n\r\ntree 10,9,8,7,6,5,4,3,2,1\r\n\r",
     "basis 1 1 1 1 1 1 1 1 1 1 1 1 1 1 1 1 1 1 1 1 1 1 1 1 1 1 1 1 1 1 1 1 \
@@ -155,7 +185,7 @@ fn a_script_is_what_its_lines_say(rt: HostRuntime) {
         Query::Tree { word } => {
             assert_eq!(rt; word.as_slice(), [10, 9, 8, 7, 6, 5, 4, 3, 2, 1].as_slice())
         }
-        Query::Count { .. } => assert!(rt; false, "not the second query"),
+        _ => assert!(rt; false, "not the second query"),
     }
 }
 

@@ -2,17 +2,13 @@
 ghost use Rattle.std.specs.Prelude.{◌≡◌, ℕ, ◌-◌, ◌≤◌, ◌<◌, map, length, IsTrue, MatchOption};
 ghost use Rattle.std.specs.List.{list_all};
 ghost use Rattle.std.specs.Str.Parse.{digits_value};
-ghost use Rattle.av_text.specs.Limits.{longest_word};
 ghost use Rattle.av_text.specs.Numerals.{is_digits, is_numeral};
 ghost use Rattle.av_text.specs.Words.{is_comma, comma_parts, is_short_numeral, is_comma_form, checked_word, word_in};
 
 use crate::Kind;
 use crate::numerals::{is_digits, is_numeral};
 use arrayvec::ArrayVec;
-use av_perm::Perm;
-
-/// The most entries of a word.
-pub const LONGEST_WORD: usize = 160;
+use av_perm::{MAX_LENGTH, Perm};
 
 /// Whether a part is a numeral of one to three digits.
 fn is_short_numeral(part: &[u8]) -> bool
@@ -55,7 +51,7 @@ fn is_comma_form(token: &[u8]) -> bool
 /// The word with these entries, at most `limit`.
 #[tactic(auto, unfolding(crate::specs::Words::checked_word))]
 fn checked(entries: &[u8], limit: usize) -> Result<Perm, Kind>
-    requires { limit ≤ longest_word }
+    requires { limit ≤ MAX_LENGTH }
     ensures { result ≡ checked_word limit entries.now }
 {
     if entries.len() > limit {
@@ -67,14 +63,14 @@ fn checked(entries: &[u8], limit: usize) -> Result<Perm, Kind>
 /// The word whose entries are the digits of the token.
 #[tactic(auto, using(crate::proofs::Digits::digits), unfolding(crate::specs::Words::checked_word))]
 fn compact_word(token: &[u8], limit: usize) -> Result<Perm, Kind>
-    requires limit { limit ≤ longest_word }
+    requires limit { limit ≤ MAX_LENGTH }
     requires digits { IsTrue (is_digits token.now) }
     ensures { result ≡ checked_word limit (map (λ b. b - 48) token.now) }
 {
     if token.len() > limit {
         return Err(Kind::LongWord);
     }
-    let mut entries = ArrayVec::<u8, LONGEST_WORD>::new();
+    let mut entries = ArrayVec::<u8, MAX_LENGTH>::new();
     for digit in token {
         entries.push(*digit - b'0');
     }
@@ -97,14 +93,14 @@ fn short_value(digits: &[u8]) -> u16
 /// The word whose entries are the numerals of the token. An entry above 255 is above their number.
 #[tactic(auto, unfolding(crate::specs::Words::checked_word))]
 fn comma_word(token: &[u8], limit: usize) -> Result<Perm, Kind>
-    requires limit { limit ≤ longest_word }
+    requires limit { limit ≤ MAX_LENGTH }
     requires form { IsTrue (is_comma_form token.now) }
     ensures { result ≡ checked_word limit (map (digits_value 10) (comma_parts token.now)) }
 {
     if count_parts(token) > limit {
         return Err(Kind::LongWord);
     }
-    let mut entries = ArrayVec::<u8, LONGEST_WORD>::new();
+    let mut entries = ArrayVec::<u8, MAX_LENGTH>::new();
     for part in token.split(|b| is_comma(*b)) {
         let Ok(entry) = u8::try_from(short_value(part)) else {
             return Err(Kind::BadWord);
@@ -117,7 +113,7 @@ fn comma_word(token: &[u8], limit: usize) -> Result<Perm, Kind>
 /// The word of at most `limit` entries that the token spells.
 #[tactic(auto, unfolding(crate::specs::Words::word_in, crate::specs::Words::entries_of))]
 pub fn word_in(token: &[u8], limit: usize) -> Result<Perm, Kind>
-    requires { limit ≤ longest_word }
+    requires { limit ≤ MAX_LENGTH }
     ensures { result ≡ word_in limit token.now }
 {
     if is_digits(token) {

@@ -1,5 +1,6 @@
 -- The lines so far said this basis and these queries, and the script is what comes of them and the lines that are left.
 use Rattle.std.proofs.Common.{◌≡◌, ◌+◌, ◌≤◌, length}
+use Rattle.av_text.specs.declared.limits.TheConstants.{MAX_SCRIPT_BYTES}
 use Rattle.av_text.specs.Read.{read}
 use Rattle.av_text.proofs.Reading.{read_on}
 use Rattle.av_text.proofs.script.read_script.Given as goal
@@ -7,7 +8,7 @@ use Rattle.av_text.proofs.script.read_script.Given as goal
 abbrev pub invariant-loop-line : goal.invariant-loop-line
 invariant-loop-line l = record {
   read : read_on (l.number + 1) l.basis l.queries l.lines ≡ read l.bytes;
-  few : l.number + length l.lines ≤ 65536;
+  few : l.number + length l.lines ≤ MAX_SCRIPT_BYTES;
 }
 
 abbrev pub decreases-loop-line : goal.decreases-loop-line
