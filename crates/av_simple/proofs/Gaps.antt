@@ -35,7 +35,7 @@ pub gap_none : (basis : List (List ℕ)) (limit : ℕ) → ((k : ℕ) → 4 ≤ 
 unfolding gap
 gap_none basis limit h = find_none (is_gap basis) (limit - 4) 4 (λ k l m. h k l (omega arith))
 
-nil_is : {A : Type 0} (xs : List A) → is_nil xs ≡ true → xs ≡ []
+pub nil_is : {A : Type 0} (xs : List A) → is_nil xs ≡ true → xs ≡ []
 nil_is {A = A} [] e = refl
 nil_is {A = A} (x ∷ xs) e = cc
 

@@ -1,3 +1,6 @@
 pub mod Levels
 pub mod Gaps
 pub mod Searches
+pub mod Insertions
+pub mod Extensions
+pub mod Gathering

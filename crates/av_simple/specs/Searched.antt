@@ -1,5 +1,5 @@
 -- What a search of the simple words of a class stands for, and what it finds.
-use Rattle.std.specs.Prelude.{◌≡◌, ℕ, suc, ◌-◌, ◌≤◌, List, [], map, Option, Some, None}
+use Rattle.std.specs.Prelude.{◌≡◌, ℕ, suc, ◌-◌, ◌≤◌, List, [], length, get_or, map, Option, Some, None}
 use Rattle.av_perm.specs.Lists.{counting}
 use Rattle.av_perm.specs.Gap.{simples, gap, simples_below}
 use Rattle.av_simple.specs.declared.outcome.Outcome.{Outcome}
@@ -34,6 +34,12 @@ last_of s = last_by s.limit (gap_of s)
 -- the simple words of the class of the lengths from 4 to last
 abbrev pub levels_to : List (List ℕ) → ℕ → List (List (List ℕ))
 levels_to basis last = map (simples basis) (counting 4 (last - 3))
+
+-- there are at least two levels, of which the last two have no words
+pub record EndsEmpty (levels : List (List (List ℕ))) : Type 0 where
+  pub two : 2 ≤ length levels
+  pub before : get_or levels (length levels - 2) [] ≡ []
+  pub last : get_or levels (length levels - 1) [] ≡ []
 
 -- all simple words of the class of length below the gap, in shortlex order
 abbrev pub roots_by : List (List ℕ) → Option ℕ → List (List ℕ)

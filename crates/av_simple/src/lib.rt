@@ -1,7 +1,8 @@
-//! The simple words of a class by length, and the gap from which on there are none.
+//! The simple words of a class by length, each length from the two below, and the gap from which on there are none.
 #![tactic(auto)]
 
 mod by_length;
+mod extension;
 mod found;
 mod level;
 mod outcome;
@@ -9,5 +10,6 @@ mod outcome;
 mod tests;
 
 pub use by_length::search;
+pub use extension::extend_level;
 pub use found::Found;
 pub use outcome::Outcome;

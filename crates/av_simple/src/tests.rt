@@ -1,5 +1,5 @@
 // The search on classes whose simple words are known.
-use crate::{Found, Outcome, search};
+use crate::{Found, Outcome, extend_level, search};
 use av_perm::{Memory, Perm, Words};
 use std::alloc::Global;
 
@@ -14,6 +14,16 @@ fn basis(alloc: Global, words: &[[u8; 5]]) -> Result<Words, Memory> {
     Ok(basis)
 }
 
+// The simple words of length 5.
+const SIMPLE: [[u8; 5]; 6] = [
+    [2, 4, 1, 5, 3],
+    [2, 5, 3, 1, 4],
+    [3, 1, 5, 2, 4],
+    [3, 5, 1, 4, 2],
+    [4, 1, 3, 5, 2],
+    [4, 2, 5, 1, 3],
+];
+
 // How many simple words of length m were found.
 fn count(found: &Found, m: usize) -> usize {
     if m < 4 || m > found.last() {
@@ -24,12 +34,12 @@ fn count(found: &Found, m: usize) -> usize {
 
 #[test]
 fn no_basis_is_unsettled(rt: HostRuntime) {
-    let Ok(found) = search(rt.alloc(), &Words::empty(rt.alloc()), 6) else {
+    let Ok(found) = search(rt.alloc(), &Words::empty(rt.alloc()), 9) else {
         assert!(rt; false);
         return;
     };
     assert!(rt; found.outcome() == Outcome::Unsettled);
-    for (m, wanted) in [(4, 2), (5, 6), (6, 46)] {
+    for (m, wanted) in [(4, 2), (5, 6), (6, 46), (7, 338), (8, 2926), (9, 28146)] {
         assert_eq!(rt; count(&found, m), wanted, "of length {m}");
     }
 }
@@ -37,15 +47,7 @@ fn no_basis_is_unsettled(rt: HostRuntime) {
 // The six simple words of length 5: none of that length is left, but four of length 6.
 #[test]
 fn one_empty_length_is_not_enough(rt: HostRuntime) {
-    let simple = [
-        [2, 4, 1, 5, 3],
-        [2, 5, 3, 1, 4],
-        [3, 1, 5, 2, 4],
-        [3, 5, 1, 4, 2],
-        [4, 1, 3, 5, 2],
-        [4, 2, 5, 1, 3],
-    ];
-    let Ok(basis) = basis(rt.alloc(), &simple) else {
+    let Ok(basis) = basis(rt.alloc(), &SIMPLE) else {
         assert!(rt; false);
         return;
     };
@@ -55,6 +57,50 @@ fn one_empty_length_is_not_enough(rt: HostRuntime) {
     };
     assert!(rt; found.outcome() == Outcome::Unsettled);
     for (m, wanted) in [(4, 2), (5, 0), (6, 4)] {
+        assert_eq!(rt; count(&found, m), wanted, "of length {m}");
+    }
+}
+
+// From 2413 and 3142 and none of length 5: each takes two points.
+#[test]
+fn two_points_at_once(rt: HostRuntime) {
+    let Ok(basis) = basis(rt.alloc(), &SIMPLE) else {
+        assert!(rt; false);
+        return;
+    };
+    let Ok(found) = search(rt.alloc(), &basis, 5) else {
+        assert!(rt; false);
+        return;
+    };
+    let _last = found.last();
+    let Ok(level) = extend_level(rt.alloc(), found.level(4), found.level(5), &basis, 6) else {
+        assert!(rt; false);
+        return;
+    };
+    let wanted = [
+        [2, 4, 6, 1, 3, 5],
+        [3, 6, 2, 5, 1, 4],
+        [4, 1, 5, 2, 6, 3],
+        [5, 3, 1, 6, 4, 2],
+    ];
+    assert_eq!(rt; level.len(), 4);
+    for (word, entries) in level.as_slice().iter().zip(wanted.iter()) {
+        assert!(rt; word.as_slice() == entries.as_slice());
+    }
+}
+
+// The numbers come from a plain program that makes the words without 321 by length and asks each for its intervals.
+#[test]
+fn few_simple_words_without_321(rt: HostRuntime) {
+    let mut basis = Words::empty(rt.alloc());
+    if let Ok(word) = Perm::from_entries(&[3, 2, 1]) {
+        assert!(rt; basis.push(word).is_ok());
+    }
+    let Ok(found) = search(rt.alloc(), &basis, 9) else {
+        assert!(rt; false);
+        return;
+    };
+    for (m, wanted) in [(4, 2), (5, 2), (6, 7), (7, 14), (8, 37), (9, 90)] {
         assert_eq!(rt; count(&found, m), wanted, "of length {m}");
     }
 }
