@@ -1,2 +1,4 @@
 pub mod Answered
 pub mod Growth
+pub mod TurnedTests
+pub mod AvoidedWords

@@ -8,4 +8,4 @@ mod names;
 mod tests;
 
 pub use constraints::{Known, add_avoid, add_require, answer, free};
-pub use names::satisfies;
+pub use names::{satisfies, satisfies_besides};

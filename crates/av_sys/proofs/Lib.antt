@@ -5,4 +5,5 @@ pub mod TreesFit
 pub mod TreesListed
 pub mod TreesOnce
 pub mod TreesStep
+pub mod Subtrees
 pub mod Worked

@@ -9,7 +9,7 @@ use Rattle.av_sys.specs.declared.terms.Equation.{Equation}
 use Rattle.av_sys.specs.declared.terms.System.{System}
 use Rattle.av_sys.specs.Terms.{well_formed}
 use Rattle.av_sys.specs.Trees.{values}
-use Rattle.av_sys.specs.TreeLists.{tree_lists, trees_up_to, trees, members, count_of}
+use Rattle.av_sys.specs.TreeLists.{tree_lists, trees_up_to, trees, members, members_at, count_of, count_at}
 
 -- the word 12
 abbrev ascent : List ℕ
@@ -42,15 +42,15 @@ its_form = refl
 
 -- its words of three entries, in the order of ranks
 pub of_three : members avoiders_of_132 3 ≡ (1 ∷ 2 ∷ 3 ∷ []) ∷ (2 ∷ 1 ∷ 3 ∷ []) ∷ (3 ∷ 1 ∷ 2 ∷ []) ∷ (3 ∷ 2 ∷ 1 ∷ []) ∷ (2 ∷ 3 ∷ 1 ∷ []) ∷ []
-unfolding members trees trees_up_to tree_lists size_lists values
+unfolding members members_at trees trees_up_to tree_lists size_lists values
 of_three = refl
 
 -- there are five of three entries
 pub count_of_three : count_of avoiders_of_132 3 ≡ 5
-unfolding count_of trees trees_up_to tree_lists size_lists
+unfolding count_of count_at trees trees_up_to tree_lists size_lists
 count_of_three = refl
 
 -- and fourteen of four
 pub count_of_four : count_of avoiders_of_132 4 ≡ 14
-unfolding count_of trees trees_up_to tree_lists size_lists
+unfolding count_of count_at trees trees_up_to tree_lists size_lists
 count_of_four = refl

@@ -1,6 +1,7 @@
 -- What constraints and names ask of a word.
 use Rattle.std.specs.Prelude.{◌≡◌, ℕ, ◌↔◌, Bool, true, ◌&&◌, List}
 use Rattle.av_perm.specs.Members.{In}
+use Rattle.av_perm.specs.Word.{ArePerms}
 use Rattle.av_perm.specs.Class.{avoids_all, contains_all}
 use Rattle.av_perm.specs.Simple.{is_sum_indecomposable, is_skew_indecomposable}
 use Rattle.av_perm.specs.Relations.{IsWord, Contains, Avoids, IsSumIndecomposable, IsSkewIndecomposable}
@@ -30,6 +31,11 @@ pub record Means (name : Name) (σ : List ℕ) : Type 0 where
   pub word : IsWord σ
   pub meets : Meets name.avoid name.require σ
   pub signed : IsSigned name.sign σ
+
+-- the words that a name avoids and requires have 1 to 160 entries, as the type `Words` holds them
+pub record IsMadeOfWords (name : Name) : Type 0 where
+  pub avoided : ArePerms name.avoid
+  pub required : ArePerms name.require
 
 -- the test of a sign
 abbrev pub meets_sign : Sign → List ℕ → Bool

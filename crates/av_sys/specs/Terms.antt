@@ -1,11 +1,12 @@
 -- What stands in a system, and when it is well formed.
-use Rattle.std.specs.Prelude.{◌≡◌, ◌⊎◌, ℕ, ◌<◌, ◌≤◌, ◌^◌, Bool, true, ◌&&◌, ◌||◌, List, [], length, slice_get, nat_eq, nat_le, nat_lt, Option, Some, None}
+use Rattle.std.specs.Prelude.{◌≡◌, ◌⊎◌, ℕ, ◌<◌, ◌≤◌, ◌^◌, Bool, true, ◌&&◌, ◌||◌, All, List, [], length, slice_get, nat_eq, nat_le, nat_lt, Option, Some, None}
 use Rattle.std.specs.List.{list_all}
 use Rattle.av_perm.specs.Members.{In}
 use Rattle.av_perm.specs.Lists.{same}
 use Rattle.av_perm.specs.Word.{is_word}
 use Rattle.av_perm.specs.Simple.{is_simple}
 use Rattle.av_perm.specs.Relations.{IsSimple, sum_root, skew_root}
+use Rattle.av_sys.specs.Names.{IsMadeOfWords}
 use Rattle.av_sys.specs.declared.terms.Term.{Term}
 use Rattle.av_sys.specs.declared.terms.Term.TheVariants.{Point, Node}
 use Rattle.av_sys.specs.declared.terms.Equation.{Equation}
@@ -50,6 +51,10 @@ pub record IsWellFormed (S : System) : Type 0 where
   pub some : 1 ≤ length S.equations
   pub few : length S.equations < 2 ^ 32
   pub terms : (e : Equation) (t : Term) → In e S.equations → In t e.terms → IsTermOf (length S.equations) t
+
+-- the names of the system's equations are made of words of 1 to 160 entries
+abbrev pub AreNamedByWords : System → Type 0
+AreNamedByWords S = All (λ e. IsMadeOfWords e.name) S.equations
 
 -- the tests of these
 abbrev pub is_root : List ℕ → Bool

@@ -37,9 +37,16 @@ trees_up_to S (suc d) u n =
 unfoldable pub trees : System → ℕ → ℕ → List Tree
 trees S u n = trees_up_to S n u n
 
--- the values of the trees of equation 0 of size n, in the order of ranks, and how many these are
+-- the values of the trees of an equation of size n, in the order of ranks, and how many trees these are
+unfoldable pub members_at : System → ℕ → ℕ → List (List ℕ)
+members_at S u n = map (value S u) (trees S u n)
+
+unfoldable pub count_at : System → ℕ → ℕ → ℕ
+count_at S u n = length (trees S u n)
+
+-- the same of equation 0
 unfoldable pub members : System → ℕ → List (List ℕ)
-members S n = map (value S 0) (trees S 0 n)
+members S n = members_at S 0 n
 
 unfoldable pub count_of : System → ℕ → ℕ
-count_of S n = length (trees S 0 n)
+count_of S n = count_at S 0 n

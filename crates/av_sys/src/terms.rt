@@ -1,5 +1,6 @@
 // Terms, equations and systems.
-ghost use Rattle.std.specs.Prelude.{◌≡◌, ◌<◌, [], ◌∷◌, ◌++◌, length, slice_get, Some, OnOk, OnErr};
+ghost use Rattle.std.specs.Prelude.{◌≡◌, ◌<◌, [], ◌∷◌, ◌++◌, length, slice_get, Some, OnOk, OnErr, All};
+ghost use Rattle.av_sys.specs.Names.{IsMadeOfWords};
 
 use crate::names::Name;
 use av_perm::{Memory, Perm};
@@ -139,7 +140,7 @@ pub struct Equation {
     pub terms: Terms,
 }
 
-/// The equations of a system, numbered from 0.
+/// The equations of a system, numbered from 0. Their names are made of words.
 #[derive(Drop)]
 pub struct Equations {
     items: Vec<Equation>,
@@ -148,10 +149,14 @@ pub struct Equations {
 impl Model for Equations {
     ghost use Rattle.std.specs.Prelude.{List};
     ghost use Rattle.av_sys.specs.declared.terms.Equation.{Equation};
+    ghost use Rattle.std.specs.Prelude.{All};
+    ghost use Rattle.av_sys.specs.Names.{IsMadeOfWords};
 
     ghost Value = { List Equation };
 
     ghost view = { λ e. e.items.items };
+
+    ghost invariant = { λ e. All (λ e. IsMadeOfWords e.name) e.items.items };
 }
 
 impl Equations {
@@ -166,7 +171,8 @@ impl Equations {
 
     /// The number of equations.
     pub fn len(&self) -> usize
-        ensures { result ≡ length self.now }
+        ensures value { result ≡ length self.now }
+        ensures names { All (λ e. IsMadeOfWords e.name) self.now }
     {
         self.items.len()
     }
@@ -191,6 +197,8 @@ impl Equations {
         ensures ok { OnOk result (self.new ≡ self.old ++ equation ∷ []) }
         ensures err { OnErr result (self.new ≡ self.old) }
     {
+        let _avoid = equation.name.avoid.len();
+        let _require = equation.name.require.len();
         match self.items.push(equation) {
             Ok(()) => Ok(()),
             Err(_) => Err(Memory),
