@@ -1,8 +1,10 @@
--- Boxes that are cut one after another.
-use Rattle.std.proofs.Common.{◌≡◌, ℕ, zero, suc, ◌+◌, ◌<◌, ◌≤◌, inl, inr, List, [], ◌∷◌, ◌++◌, map, length, get_or, set, replicate, true, Option, Some, None, refl, sym, ap, ap₂, ◌∙◌, subst, arith, append_assoc, append-nil}
-use Rattle.std.proofs.lemmas.List.{get_or-map, length-map, map-set}
+-- The boxes that are cut one after another on the path of the walk.
+use Rattle.std.proofs.Common.{◌≡◌, ℕ, zero, suc, ◌+◌, ◌<◌, ◌≤◌, inl, inr, List, [], ◌∷◌, ◌++◌, map, length, get_or, set, replicate, take, reverse, cond, Bool, true, false, Option, Some, None, refl, sym, ap, ap₂, ◌∙◌, subst, arith, append_assoc, append-nil}
+use Rattle.std.proofs.lemmas.Bool.{cases_eq}
+use Rattle.std.proofs.lemmas.List.{get_or-map, length-map, map-set, length-set, get_or-replicate, length-replicate, get_or-set_same, get_or-set_other, reverse-append}
+use Rattle.std.specs.List.{flat_map}
 use Rattle.av_perm.specs.Members.{In}
-use Rattle.av_perm.proofs.Membership.{Each, In_append_cases, In_one, at_In, append_left, append_right}
+use Rattle.av_perm.proofs.Membership.{Each, at_In, append_left, append_right}
 use Rattle.av_perm.proofs.PermWords.{perm_word}
 use Rattle.av_perm.specs.Word.{is_perm, ArePerms}
 use Rattle.std.proofs.lemmas.List.Elements.{All-get_or}
@@ -10,17 +12,23 @@ use Rattle.av_perm.specs.Relations.{IsWord}
 use Rattle.av_sys.specs.declared.names.Constraint.{Constraint}
 use Rattle.av_name.specs.declared.constraints.Known.{Known}
 use Rattle.av_name.specs.declared.constraints.Known.TheVariants.{In as Inside, Out as Outside, Open}
-use Rattle.av_name.specs.Constraints.{free, answer, add_avoid, add_require}
-use Rattle.av_name.proofs.Growth.{answer_avoid, answer_require}
+use Rattle.av_name.specs.Constraints.{free, answer}
+use Rattle.av_name.proofs.Growth.{IsFit}
 use Rattle.av_split.specs.declared.cells.Cell.{Cell}
-use Rattle.av_split.specs.declared.pending.Pending.{Pending}
+use Rattle.av_split.specs.declared.rows.Mark.{Mark}
+use Rattle.av_split.specs.declared.path.Path.{Path}
+use Rattle.av_split.specs.declared.path.Turn.{Turn}
 use Rattle.av_split.specs.declared.steps.Step.{Step}
 use Rattle.av_split.specs.declared.steps.Step.TheVariants.{Holds, Fails, Asks}
-use Rattle.av_split.specs.Split.{turned, all_of, some_of, Demand, demand_known, demands_known, at_open, first_open, next_query, queries_of, boxes_by}
-use Rattle.av_split.specs.Boxes.{Query, Box, child_of, word_rules, demands, boxes}
-use Rattle.av_split.specs.Cells.{Pointwise, query_at, IsQueryOf, AreQueriesOf, IsDemandOf, AreDemandsOf, known_at, IsCellOf, HaveCellsOf, IsStep, rows_of, avoided_row, required_row, CanAsk, CanStep, IsCut, Advances}
-use Rattle.av_split.proofs.GenericSplit.{open_count, next_finds, fewer_avoiding, fewer_requiring, split_outside, split_inside, boxes_more}
-use Rattle.av_split.proofs.WordSplit.{Fine, Apt, word_law, avoiding_fine, requiring_fine, demands_apt, start_fine}
+use Rattle.av_split.specs.Split.{both, either, turned, all_of, some_of, Demand, demand_known, demands_known, at_open, first_open, next_query, queries_of, boxes_by}
+use Rattle.av_split.specs.Boxes.{Query, Box, child_of, added, word_rules, demands, boxes}
+use Rattle.av_split.specs.Laws.{IsTidy}
+use Rattle.av_split.specs.Marks.{unmarked, once, relates, IsSettled, constraint_of, box_of, free_mark}
+use Rattle.av_split.specs.Cells.{Pointwise, query_at, IsQueryOf, AreQueriesOf, IsDemandOf, AreDemandsOf, known_at, IsCellOf, HaveCellsOf, IsStep}
+use Rattle.av_split.specs.Walk.{IsRow, AreRows, IsOpen, AreCuts, IsPath, IsWalk, before, parts_left, parts_of, left_of, CanEnter, AreTurns, IsEntered, Either, GoesBack, Advances, CanStep}
+use Rattle.av_split.proofs.GenericSplit.{both_inside, both_outside, either_inside, either_outside, turned_open, open_count, Asks as IsAsked, asks, fewer, boxes_outside, boxes_inside, boxes_more}
+use Rattle.av_split.proofs.WordSplit.{Fine, Apt, word_law, demands_apt}
+use Rattle.av_split.proofs.MarkedRows.{row_fit, settled_is, settled_row, settled_known, free_row, free_is}
 
 -- two lists whose items agree
 all_same : {A B : Type 0} (R : A → B → Type 0) (F : A → Known) (f : B → Known) → ((x : A) (y : B) → R x y → F x ≡ f y) → (xs : List A) (ys : List B) → Pointwise R xs ys → all_of F xs ≡ all_of f ys
@@ -84,13 +92,6 @@ module _ (k : ℕ) (ps : List (List ℕ)) (F : Cell → Known) (f : Query → Kn
       (λ d e i. first_same (AreQueriesOf k ps) (all_of F) (all_of f) (λ (m : List Cell). first_open F (λ (q : Cell). Some q) m) (λ (m : List Query). first_open f (λ (q : Query). Some q) m) (IsQueryOf k ps) embedding_same
       (first_same (IsQueryOf k ps) F f (λ (q : Cell). Some q) (λ (q : Query). Some q) (IsQueryOf k ps) same (λ x y j. j)) d.embeddings e.embeddings i.embeddings)
 
--- what is known of a cell is what its constraint tells of its pattern
-cell_known : (ps : List (List ℕ)) (b : Box) (cell : Cell) (q : Query) → IsQueryOf (length b) ps cell q → known_at (rows_of ps b) cell ≡ word_rules.answer b q
-cell_known ps b cell q i =
-    ap (λ (row : List Known). get_or row cell.pattern Inside) (get_or-map (λ c. map (answer c) ps) b cell.child free [] i.child)
-    ∙ get_or-map (answer (child_of b cell.child)) ps cell.pattern [] Inside i.pattern
-    ∙ ap (word_rules.answer b) i.query
-
 -- an item of a list has its partner
 pointwise_In : {A B : Type 0} (R : A → B → Type 0) (xs : List A) (ys : List B) (x : A) → Pointwise R xs ys → In x xs → (y : B) × R x y
 pointwise_In R [] ys x p i = absurd i
@@ -98,47 +99,173 @@ pointwise_In R (z ∷ xs) [] x p i = absurd p
 pointwise_In R (z ∷ xs) (y ∷ ys) x p (inl e) = (y, subst (λ w. R w y) (sym e) p.0)
 pointwise_In R (z ∷ xs) (y ∷ ys) x p (inr i) = pointwise_In R xs ys x p.1 i
 
--- the cell of a query is one of the rows
-query_cell : (ps : List (List ℕ)) (b : Box) (cell : Cell) (q : Query) → IsQueryOf (length b) ps cell q → IsCellOf (rows_of ps b) cell
-query_cell ps b cell q i = record {
-  child = omega (arith, length-map b (λ c. map (answer c) ps), i.child);
-  pattern = omega (arith, ap length (get_or-map (λ c. map (answer c) ps) b cell.child free [] i.child), length-map ps (answer (child_of b cell.child)), i.pattern);
+-- a list begins with items of it
+take_In : {A : Type 0} (n : ℕ) (xs : List A) (x : A) → In x (take n xs) → In x xs
+take_In zero xs x i = absurd i
+take_In (suc n) [] x i = absurd i
+take_In (suc n) (y ∷ xs) x (inl e) = inl e
+take_In (suc n) (y ∷ xs) x (inr i) = inr (take_In n xs x i)
+
+-- the constraint of a child
+child_is : (ps : List (List ℕ)) (rows : List (List Mark)) (i : ℕ) → i < length rows → child_of (box_of ps rows) i ≡ constraint_of ps (get_or rows i [])
+child_is ps rows i h = get_or-map (constraint_of ps) rows i [] free h
+
+-- what is known of a cell is what its constraint tells of its pattern
+cell_known : (k : ℕ) (ps : List (List ℕ)) (rows : List (List Mark)) (cell : Cell) (q : Query) → AreRows k ps rows → IsQueryOf k ps cell q → known_at rows cell ≡ word_rules.answer (box_of ps rows) q
+cell_known k ps rows cell q r i =
+    (r.each cell.child i.child).known cell.pattern i.pattern
+    ∙ ap (λ c. answer c (get_or ps cell.pattern [])) (sym (child_is ps rows cell.child (let n = r.count in let h = i.child in omega arith)))
+    ∙ ap (word_rules.answer (box_of ps rows)) i.query
+
+-- the box of the rows is fine
+rows_fine : (k : ℕ) (ps : List (List ℕ)) (rows : List (List Mark)) → AreRows k ps rows → Fine k (box_of ps rows)
+rows_fine k ps rows r = record {
+  count = length-map rows (constraint_of ps) ∙ r.count;
+  fit = λ i h. subst IsFit (sym (child_is ps rows i (let n = r.count in omega arith))) (row_fit ps (get_or rows i []) (r.each i h));
+  tidy = λ i h. subst IsTidy (sym (child_is ps rows i (let n = r.count in omega arith))) (r.each i h).tidy;
 }
 
--- so are all cells of the demands
-pub have_cells : (ps : List (List ℕ)) (b : Box) (ds : List (Demand Cell)) (es : List (Demand Query)) → AreDemandsOf (length b) ps ds es → HaveCellsOf (rows_of ps b) ds
-have_cells ps b ds es a d i cells j cell l =
-    let e = pointwise_In (IsDemandOf (length b) ps) ds es d a i in
-    let m = pointwise_In (AreQueriesOf (length b) ps) d.embeddings (e.0).embeddings cells (e.1).embeddings j in
-    let q = pointwise_In (IsQueryOf (length b) ps) cells m.0 cell m.1 l in
-    query_cell ps b cell q.0 q.1
+-- the cell of a query is one of the rows
+query_cell : (k : ℕ) (ps : List (List ℕ)) (rows : List (List Mark)) (cell : Cell) (q : Query) → AreRows k ps rows → IsQueryOf k ps cell q → IsCellOf rows cell
+query_cell k ps rows cell q r i = record {
+  child = let n = r.count in let h = i.child in omega arith;
+  pattern = let n = (r.each cell.child i.child).size in let h = i.pattern in omega arith;
+}
 
--- the next row where a pattern is avoided
-avoided_is : (c : Constraint) (p : List ℕ) (ps : List (List ℕ)) → Each IsWord c.avoid → IsWord p → avoided_row ps p (map (answer c) ps) ≡ map (answer (add_avoid c p)) ps
-avoided_is c p [] f g = refl
-avoided_is c p (w ∷ ps) f g = ap₂ (λ (x : Known) (xs : List Known). x ∷ xs) (sym (answer_avoid c p w f g)) (avoided_is c p ps f g)
+-- each cell of the demands has its query
+cell_query : (k : ℕ) (ps : List (List ℕ)) (ds : List (Demand Cell)) (es : List (Demand Query)) → AreDemandsOf k ps ds es → (d : Demand Cell) → In d ds → (cells : List Cell) → In cells d.embeddings → (cell : Cell) → In cell cells
+    → (q : Query) × IsQueryOf k ps cell q
+cell_query k ps ds es a d i cells j cell l =
+    let e = pointwise_In (IsDemandOf k ps) ds es d a i in
+    let m = pointwise_In (AreQueriesOf k ps) d.embeddings (e.0).embeddings cells (e.1).embeddings j in
+    pointwise_In (IsQueryOf k ps) cells m.0 cell m.1 l
 
--- and where it is required
-required_is : (c : Constraint) (p : List ℕ) (ps : List (List ℕ)) → Each IsWord c.require → IsWord p → answer c p ≡ Open → required_row ps p (map (answer c) ps) ≡ map (answer (add_require c p)) ps
-required_is c p [] f g o = refl
-required_is c p (w ∷ ps) f g o = ap₂ (λ (x : Known) (xs : List Known). x ∷ xs) (sym (answer_require c p w f g o)) (required_is c p ps f g o)
+-- where one answer is the other is so too
+abbrev Passes : {A : Type 0} → Known → (A → Known) → (A → Known) → A → Type 0
+Passes k f g x = f x ≡ k → g x ≡ k
 
--- a pending box: its constraints, and what they tell of the patterns
-pub record IsPending (k : ℕ) (ps : List (List ℕ)) (p : Pending) : Type 0 where
-  pub fine : Fine k p.constraints
-  pub rows : p.rows.items ≡ rows_of ps p.constraints
+both_out : (k : Known) → both k Outside ≡ Outside
+both_out Inside = refl
+both_out Outside = refl
+both_out Open = refl
 
--- the boxes of the pending boxes, the last of which comes first
-abbrev pub todo : List (Demand Query) → List Pending → List Box
-todo ds [] = []
-todo ds (p ∷ stack) = todo ds stack ++ boxes_by word_rules ds p.constraints
+either_in : (k : Known) → either k Inside ≡ Inside
+either_in Inside = refl
+either_in Outside = refl
+either_in Open = refl
 
--- the last comes first
-pub todo_snoc : (ds : List (Demand Query)) (stack : List Pending) (p : Pending) → todo ds (stack ++ p ∷ []) ≡ boxes_by word_rules ds p.constraints ++ todo ds stack
-todo_snoc ds [] p = sym (append-nil (boxes_by word_rules ds p.constraints))
-todo_snoc ds (x ∷ stack) p =
-    ap (λ (l : List Box). l ++ boxes_by word_rules ds x.constraints) (todo_snoc ds stack p)
-    ∙ append_assoc (boxes_by word_rules ds p.constraints) (todo ds stack) (boxes_by word_rules ds x.constraints)
+all_pass : {A : Type 0} (k : Known) (f g : A → Known) (xs : List A) → (k ≡ Open → ⊥) → Each (Passes k f g) xs → all_of f xs ≡ k → all_of g xs ≡ k
+all_pass Inside f g [] n h e = refl
+all_pass Outside f g [] n h e = absurd (cc)
+all_pass Open f g xs n h e = absurd (n refl)
+all_pass Inside f g (x ∷ xs) n h e = let b = both_inside (f x) (all_of f xs) e in ap₂ both (h x (inl refl) b.0) (all_pass Inside f g xs n (λ y i. h y (inr i)) b.1)
+all_pass Outside f g (x ∷ xs) n h e = elim (both_outside (f x) (all_of f xs) e) [
+  | inl q ↦ ap (λ k. both k (all_of g xs)) (h x (inl refl) q)
+  | inr q ↦ ap (both (g x)) (all_pass Outside f g xs n (λ y i. h y (inr i)) q) ∙ both_out (g x)
+]
+
+some_pass : {A : Type 0} (k : Known) (f g : A → Known) (xs : List A) → (k ≡ Open → ⊥) → Each (Passes k f g) xs → some_of f xs ≡ k → some_of g xs ≡ k
+some_pass Inside f g [] n h e = absurd (cc)
+some_pass Outside f g [] n h e = refl
+some_pass Open f g xs n h e = absurd (n refl)
+some_pass Outside f g (x ∷ xs) n h e = let b = either_outside (f x) (some_of f xs) e in ap₂ either (h x (inl refl) b.0) (some_pass Outside f g xs n (λ y i. h y (inr i)) b.1)
+some_pass Inside f g (x ∷ xs) n h e = elim (either_inside (f x) (some_of f xs) e) [
+  | inl q ↦ ap (λ k. either k (some_of g xs)) (h x (inl refl) q)
+  | inr q ↦ ap (either (g x)) (some_pass Inside f g xs n (λ y i. h y (inr i)) q) ∙ either_in (g x)
+]
+
+turned_twice : (w : Bool) (k : Known) → turned w (turned w k) ≡ k
+turned_twice true k = refl
+turned_twice false Inside = refl
+turned_twice false Outside = refl
+turned_twice false Open = refl
+
+-- a demand, where that holds of its cells, as its kind turns it
+demand_pass : (k : Known) (f g : Cell → Known) (d : Demand Cell) → (k ≡ Open → ⊥) → ((m : List Cell) → In m d.embeddings → Each (Passes (turned d.required k) f g) m) → demand_known f d ≡ k → demand_known g d ≡ k
+demand_pass k f g d n h e =
+    let w : Bool = d.required in
+    let settled : turned w k ≡ Open → ⊥ = λ o. n (turned_open w k o) in
+    ap (turned w)
+    (some_pass (turned w k) (all_of f) (all_of g) d.embeddings settled (λ m i. all_pass (turned w k) f g m settled (h m i)) (sym (turned_twice w (some_of (all_of f) d.embeddings)) ∙ ap (turned w) e))
+    ∙ turned_twice w k
+
+inside_open : Inside ≡ Open → ⊥
+inside_open e = cc
+
+outside_open : Outside ≡ Open → ⊥
+outside_open e = cc
+
+-- of demands that are open together none is broken
+outside_one : {A : Type 0} (f : A → Known) (xs : List A) (x : A) → In x xs → f x ≡ Outside → all_of f xs ≡ Outside
+outside_one f [] x i o = absurd i
+outside_one f (y ∷ xs) x (inl q) o = ap (λ k. both k (all_of f xs)) (ap f (sym q) ∙ o)
+outside_one f (y ∷ xs) x (inr j) o = ap (both (f y)) (outside_one f xs x j o) ∙ both_out (f y)
+
+open_none : {A : Type 0} (f : A → Known) (xs : List A) (x : A) → all_of f xs ≡ Open → In x xs → f x ≡ Outside → ⊥
+open_none f xs x e i o = outside_open (sym (outside_one f xs x i o) ∙ e)
+
+-- what is known stays known, and only what is required is found to be, or only what is avoided
+once_keeps : (r b : Bool) (k l : Known) → (l ≡ Open → ⊥) → k ≡ l → once r b k ≡ l
+once_keeps true true Inside l n e = e
+once_keeps true true Outside l n e = e
+once_keeps true true Open l n e = absurd (n (sym e))
+once_keeps true false k l n e = e
+once_keeps false true Inside l n e = e
+once_keeps false true Outside l n e = e
+once_keeps false true Open l n e = absurd (n (sym e))
+once_keeps false false k l n e = e
+
+once_other : (r b : Bool) (k : Known) → once r b k ≡ turned r Outside → k ≡ turned r Outside
+once_other true true Inside e = e
+once_other true true Outside e = e
+once_other true true Open e = absurd (cc)
+once_other true false k e = e
+once_other false true Inside e = e
+once_other false true Outside e = e
+once_other false true Open e = absurd (cc)
+once_other false false k e = e
+
+-- the rows once the pattern of a cell is settled
+module _ (r : Bool) (k : ℕ) (ps : List (List ℕ)) (rows next : List (List Mark)) (row : List Mark) (cell : Cell) (is : AreRows k ps rows) (h : cell.child < k) (g : cell.pattern < length ps) (word : IsWord (get_or ps cell.pattern []))
+    (unknown : known_at rows cell ≡ Open) (s : IsSettled r ps cell.pattern (get_or rows cell.child []) row) (e : next ≡ set rows cell.child row) where
+  here : cell.child < length rows
+  here = let n = is.count in omega arith
+
+  next_box : box_of ps next ≡ word_rules.settle r (box_of ps rows) (query_at ps cell)
+  next_box =
+      ap (box_of ps) e ∙ map-set (constraint_of ps) rows cell.child row
+      ∙ ap (set (box_of ps rows) cell.child) (settled_is r ps cell.pattern (get_or rows cell.child []) row (is.each cell.child h) g word unknown s ∙ ap (λ c. added r c (get_or ps cell.pattern [])) (sym (child_is ps rows cell.child here)))
+
+  same_row : get_or next cell.child [] ≡ row
+  same_row = ap (λ (l : List (List Mark)). get_or l cell.child []) e ∙ get_or-set_same rows cell.child row [] here
+
+  other_row : (j : ℕ) → (j ≡ cell.child → ⊥) → get_or next j [] ≡ get_or rows j []
+  other_row j n = ap (λ (l : List (List Mark)). get_or l j []) e ∙ get_or-set_other rows cell.child j row [] n
+
+  next_rows : AreRows k ps next
+  next_rows = record {
+    count = ap length e ∙ length-set rows cell.child row ∙ is.count;
+    each = λ j l. elim (cases_eq j cell.child) [
+      | inl q ↦ subst (λ i. IsRow ps (get_or next i [])) (sym q) (subst (IsRow ps) (sym same_row) (settled_row r ps cell.pattern (get_or rows cell.child []) row (is.each cell.child h) g word unknown s))
+      | inr n ↦ subst (IsRow ps) (sym (other_row j n)) (is.each j l)
+    ];
+  }
+
+  -- what becomes of what is known of a cell
+  next_known : (other : Cell) → other.pattern < length ps → (t : Bool) × (known_at next other ≡ once r t (known_at rows other))
+  next_known other p = elim (cases_eq other.child cell.child) [
+    | inl q ↦ (
+      relates r ps cell.pattern other.pattern,
+      ap (λ (x : List Mark). (get_or x other.pattern unmarked).known) (ap (λ i. get_or next i []) q ∙ same_row)
+          ∙ settled_known r ps cell.pattern (get_or rows cell.child []) row s other.pattern p
+          ∙ ap (λ i. once r (relates r ps cell.pattern other.pattern) (get_or (get_or rows i []) other.pattern unmarked).known) (sym q),
+    )
+    | inr n ↦ (false, ap (λ (x : List Mark). (get_or x other.pattern unmarked).known) (other_row other.child n) ∙ none r (known_at rows other))
+  ]
+    where
+      none : (r : Bool) (k : Known) → k ≡ once r false k
+      none true k = refl
+      none false k = refl
 
 -- how many steps a box with n open queries takes at most
 abbrev weight : ℕ → ℕ
@@ -162,243 +289,296 @@ weight_some : (n : ℕ) → 1 ≤ weight n
 weight_some zero = omega arith
 weight_some (suc n) = omega arith
 
--- the weight of a pending box
-abbrev weight_of : List (Demand Query) → Pending → ℕ
-weight_of ds p = weight (open_count (word_rules.answer p.constraints) (queries_of ds))
-
--- the weight of all
-abbrev pub weights : List (Demand Query) → List Pending → ℕ
+-- the weight of some boxes
+abbrev pub weights : List (Demand Query) → List Box → ℕ
 weights ds [] = 0
-weights ds (p ∷ stack) = weight_of ds p + weights ds stack
+weights ds (b ∷ bs) = weight (open_count (word_rules.answer b) (queries_of ds)) + weights ds bs
 
--- the last counts too
-weights_snoc : (ds : List (Demand Query)) (stack : List Pending) (p : Pending) → weights ds (stack ++ p ∷ []) ≡ weights ds stack + weight_of ds p
-weights_snoc ds [] p = omega arith
-weights_snoc ds (x ∷ stack) p = omega (arith, weights_snoc ds stack p)
+none : {A : Type 0} {x : A} → None ≡ Some x → ⊥
+none e = cc
 
--- each of the stack and one more
-each_snoc : {A : Type 0} (P : A → Type 0) (xs : List A) (x : A) → Each P xs → P x → Each P (xs ++ x ∷ [])
-each_snoc P xs x h p y i = elim (In_append_cases xs (x ∷ []) y i) [ inl j ↦ h y j | inr j ↦ subst P (sym (In_one y x j)) p ]
+some : {A : Type 0} {x y : A} → Some x ≡ Some y → x ≡ y
+some e = cc
 
--- what a turn of the loop keeps
-pub record Advanced (π : List ℕ) (A R ps : List (List ℕ)) (before after : List Pending) (now : List Box) : Type 0 where
-  pub known : Each (IsPending (length π) ps) after
-  pub boxes : now ++ todo (demands π A R) after ≡ boxes π A R
-  pub less : weights (demands π A R) after < weights (demands π A R) before
+-- an item of a list is one of the list from its end on
+In_reverse : {A : Type 0} (xs : List A) (x : A) → In x xs → In x (reverse xs)
+In_reverse [] x i = absurd i
+In_reverse (y ∷ xs) x (inl e) = subst (In x) (sym (reverse-append (y ∷ []) xs)) (append_right (reverse xs) (y ∷ []) x (inl e))
+In_reverse (y ∷ xs) x (inr j) = subst (In x) (sym (reverse-append (y ∷ []) xs)) (append_left (reverse xs) (y ∷ []) x (In_reverse xs x j))
 
--- the rows of a box with a new constraint
-rows_set : (ps : List (List ℕ)) (b : Box) (i : ℕ) (c : Constraint) (rows : List (List Known)) (row : List Known) → rows ≡ rows_of ps b → row ≡ map (answer c) ps
-    → set rows i row ≡ rows_of ps (set b i c)
-rows_set ps b i c rows row e f = ap₂ (λ (r : List (List Known)) (x : List Known). set r i x) e f ∙ sym (map-set (λ d. map (answer d) ps) b i c)
+-- the boxes of a step
+abbrev pub given : Option Box → List Box
+given None = []
+given (Some b) = b ∷ []
 
--- the row of a child
-row_at : (ps : List (List ℕ)) (b : Box) (i : ℕ) (rows : List (List Known)) → rows ≡ rows_of ps b → i < length b → get_or rows i [] ≡ map (answer (child_of b i)) ps
-row_at ps b i rows e h = ap (λ (r : List (List Known)). get_or r i []) e ∙ get_or-map (λ c. map (answer c) ps) b i free [] h
+-- an item that is put back
+set_back : {A : Type 0} (xs : List A) (i : ℕ) (x d : A) → i < length xs → set (set xs i x) i (get_or xs i d) ≡ xs
+set_back [] i x d h = absurd (omega arith)
+set_back (y ∷ xs) zero x d h = refl
+set_back (y ∷ xs) (suc i) x d h = ap (λ l. y ∷ l) (set_back xs i x d (omega arith))
+
+-- what a turn of the loop keeps, and what it gives
+pub record Advanced (k : ℕ) (ps : List (List ℕ)) (ds : List (Demand Cell)) (all : List (Demand Query)) (parts : List Box) (next : Option Path) (out : List Box) : Type 0 where
+  pub path : (q : Path) → next ≡ Some q → IsPath k ps ds q
+  pub boxes : flat_map (boxes_by word_rules all) parts ≡ out ++ left_of all ps next
+  pub less : weights all (parts_of ps next) < weights all parts
 
 -- of one root and name
-module _ (π : List ℕ) (A R ps : List (List ℕ)) (ga : Each IsWord A) (gr : Each IsWord R) where
-  -- its demands
-  abbrev all : List (Demand Query)
-  all = demands π A R
-
+module _ (π : List ℕ) (A R ps : List (List ℕ)) (ds : List (Demand Cell)) (ga : Each IsWord A) (gr : Each IsWord R) (asked : AreDemandsOf (length π) ps ds (demands π A R)) where
   -- the queries are of the children
   apt : Each (Apt (length π)) (queries_of (demands π A R))
   apt = demands_apt π A R ga gr
 
-  -- the answers at cells are those at queries
-  agree : (p : Pending) → IsPending (length π) ps p → (cell : Cell) (q : Query) → IsQueryOf (length π) ps cell q → known_at p.rows.items cell ≡ word_rules.answer p.constraints q
-  agree p i cell q e =
-      ap (λ (rows : List (List Known)). known_at rows cell) i.rows
-      ∙ cell_known ps p.constraints cell q (subst (λ n. IsQueryOf n ps cell q) (sym i.fine.count) e)
-
   -- the cells of the demands are in the rows
-  pub cells_there : (p : Pending) (ds : List (Demand Cell)) → IsPending (length π) ps p → AreDemandsOf (length π) ps ds (demands π A R) → HaveCellsOf p.rows.items ds
-  cells_there p ds i a =
-      subst (λ (rows : List (List Known)). HaveCellsOf rows ds) (sym i.rows) (have_cells ps p.constraints ds (demands π A R) (subst (λ n. AreDemandsOf n ps ds (demands π A R)) (sym i.fine.count) a))
+  pub cells_there : (rows : List (List Mark)) → AreRows (length π) ps rows → HaveCellsOf rows ds
+  cells_there rows is d j cells l cell m =
+      let q = cell_query (length π) ps ds (demands π A R) asked d j cells l cell m in
+      query_cell (length π) ps rows cell q.0 is q.1
 
-  -- the open cell of a step, with its query
-  record Asked (p : Pending) (cell : Cell) : Type 0 where
-    query : Query
-    next : next_query (word_rules.answer p.constraints) (demands π A R) ≡ Some query
-    unknown : word_rules.answer p.constraints query ≡ Open
-    there : In query (queries_of (demands π A R))
-    cell_is : IsQueryOf (length π) ps cell query
+  -- a box with these rows
+  module _ (rows : List (List Mark)) (is : AreRows (length π) ps rows) where
+    -- its answers at cells are those at queries
+    agree : (cell : Cell) (q : Query) → IsQueryOf (length π) ps cell q → known_at rows cell ≡ word_rules.answer (box_of ps rows) q
+    agree cell q e = cell_known (length π) ps rows cell q is e
 
-  -- the step's cell is open
-  asked : (p : Pending) (ds : List (Demand Cell)) (cell : Cell) → IsPending (length π) ps p → AreDemandsOf (length π) ps ds (demands π A R)
-      → IsStep (Asks cell) (demands_known (known_at p.rows.items) ds) (next_query (known_at p.rows.items) ds) → Asked p cell
-  asked p ds cell i a s =
-      let known = sym (demands_same (length π) ps (known_at p.rows.items) (word_rules.answer p.constraints) (agree p i) ds (demands π A R) a) ∙ s.0 in
-      let n = next_finds (word_rules.answer p.constraints) (demands π A R) known in
-      let both = next_same (length π) ps (known_at p.rows.items) (word_rules.answer p.constraints) (agree p i) ds (demands π A R) a in
+    -- what is known of the demands
+    same_known : demands_known (known_at rows) ds ≡ demands_known (word_rules.answer (box_of ps rows)) (demands π A R)
+    same_known = demands_same (length π) ps (known_at rows) (word_rules.answer (box_of ps rows)) agree ds (demands π A R) asked
+
+    -- the open cell of a step, with its query
+    record Asked (cell : Cell) : Type 0 where
+      cell_is : IsQueryOf (length π) ps cell (query_at ps cell)
+      asks : IsAsked word_rules (demands π A R) (box_of ps rows) (query_at ps cell)
+
+    asked_at : (cell : Cell) → IsStep (Asks cell) (demands_known (known_at rows) ds) (next_query (known_at rows) ds) → Asked cell
+    asked_at cell s =
+        let n = asks word_rules (demands π A R) (box_of ps rows) (sym same_known ∙ s.0) in
+        let both = next_same (length π) ps (known_at rows) (word_rules.answer (box_of ps rows)) agree ds (demands π A R) asked in
+        let i : IsQueryOf (length π) ps cell n.0 = subst (λ o. OptionOf (IsQueryOf (length π) ps) o (Some n.0)) s.1 (subst (OptionOf (IsQueryOf (length π) ps) (next_query (known_at rows) ds)) n.1.next both) in
+        record {
+          cell_is = record { child = i.child; pattern = i.pattern; query = refl };
+          asks = subst (IsAsked word_rules (demands π A R) (box_of ps rows)) (sym i.query) n.1;
+        }
+
+    can_enter : (cell : Cell) → Asked cell → CanEnter ps rows cell
+    can_enter cell a = record {
+      child = let h = a.cell_is.child in let n = is.count in omega arith;
+      pattern = a.cell_is.pattern;
+      size = (is.each cell.child a.cell_is.child).size;
+    }
+
+    -- the pattern of the cell, of which nothing is known
+    cell_open : (cell : Cell) → Asked cell → known_at rows cell ≡ Open
+    cell_open cell a = agree cell (query_at ps cell) a.cell_is ∙ a.asks.unknown
+
+    cell_word : (cell : Cell) → Asked cell → IsWord (get_or ps cell.pattern [])
+    cell_word cell a = (apt (query_at ps cell) a.asks.there).word
+
+    -- the path to a part of the box, after some cuts, and the parts that it leaves for later
+    entered : (r : Bool) (n : ℕ) (cell : Cell) (cuts : List Turn) (q : Path) → Asked cell → n ≤ length ds → all_of (demand_known (known_at rows)) (take n ds) ≡ Inside
+        → next_query (known_at rows) ds ≡ Some cell → AreCuts (length π) ps ds cuts rows → IsEntered r ps cell n rows cuts q
+        → IsPath (length π) ps ds q × (parts_of ps (Some q) ≡ word_rules.settle r (box_of ps rows) (query_at ps cell) ∷ (cond r [] (word_rules.settle true (box_of ps rows) (query_at ps cell) ∷ []) ++ parts_left ps cuts rows))
+    entered r n cell cuts q a m done next earlier x = (
       record {
-        query = n.0;
-        next = n.1;
-        unknown = n.2.0;
-        there = n.2.1;
-        cell_is = subst (λ o. OptionOf (IsQueryOf (length π) ps) o (Some n.0)) s.1 (subst (OptionOf (IsQueryOf (length π) ps) (next_query (known_at p.rows.items) ds)) n.1 both);
-      }
+        marks = next_rows r (length π) ps rows q.rows.items x.row cell is a.cell_is.child a.cell_is.pattern (cell_word cell a) (cell_open cell a) x.settled x.rows;
+        within = subst (λ l. l ≤ length ds) (sym x.from) m;
+        done =
+            subst (λ l. all_of (demand_known (known_at q.rows.items)) (take l ds) ≡ Inside) (sym x.from)
+            (all_pass Inside (demand_known (known_at rows)) (demand_known (known_at q.rows.items)) (take n ds) inside_open
+            (λ d i. demand_pass Inside (known_at rows) (known_at q.rows.items) d inside_open (λ l j c k e. stays d (take_In n ds d i) l j c k (λ o. inside_open (turned_open d.required Inside o)) e)) done);
+        safe = λ d i s o.
+            open_none (demand_known (known_at rows)) ds d (same_known ∙ a.asks.known) i
+            (demand_pass Outside (known_at q.rows.items) (known_at rows) d outside_open (λ l j c k. subst (λ w. Passes (turned w Outside) (known_at q.rows.items) (known_at rows) c) (kind d s) (came d i l j c k)) o);
+        cuts = subst (λ l. AreCuts (length π) ps ds l q.rows.items) (sym x.turns) (
+          subst (λ l. IsOpen (length π) ps ds l n cell) (sym put_back) (record { marks = is; known = same_known ∙ a.asks.known; next = next; within = m; done = done }),
+          subst (AreCuts (length π) ps ds cuts) (sym put_back) earlier,
+        );
+      },
+      ap₂ (λ (b : Box) (bs : List Box). b ∷ bs)
+          (next_box r (length π) ps rows q.rows.items x.row cell is a.cell_is.child a.cell_is.pattern (cell_word cell a) (cell_open cell a) x.settled x.rows)
+          (ap (λ l. parts_left ps l q.rows.items) x.turns ∙ ap (λ l. cond r [] (word_rules.settle true (box_of ps l) (query_at ps cell) ∷ []) ++ parts_left ps cuts l) put_back),
+    )
+      where
+        put_back : set q.rows.items cell.child (get_or rows cell.child []) ≡ rows
+        put_back = ap (λ (l : List (List Mark)). set l cell.child (get_or rows cell.child [])) x.rows ∙ set_back rows cell.child x.row [] (can_enter cell a).child
 
-  -- so it can be asked
-  can_ask : (p : Pending) (cell : Cell) → IsPending (length π) ps p → Asked p cell → CanAsk ps p.constraints cell
-  can_ask p cell i a = record {
-    child = let h = a.cell_is.child in let n = i.fine.count in omega arith;
-    pattern = a.cell_is.pattern;
-    unknown = ap (word_rules.answer p.constraints) a.cell_is.query ∙ a.unknown;
-  }
+        tells : (d : Demand Cell) → In d ds → (l : List Cell) → In l d.embeddings → (c : Cell) → In c l → (t : Bool) × (known_at q.rows.items c ≡ once r t (known_at rows c))
+        tells d i l j c k =
+            next_known r (length π) ps rows q.rows.items x.row cell is a.cell_is.child a.cell_is.pattern (cell_word cell a) (cell_open cell a) x.settled x.rows c
+            (cell_query (length π) ps ds (demands π A R) asked d i l j c k).1.pattern
+
+        stays : (d : Demand Cell) → In d ds → (l : List Cell) → In l d.embeddings → (c : Cell) → In c l → {k : Known} → (k ≡ Open → ⊥) → known_at rows c ≡ k → known_at q.rows.items c ≡ k
+        stays d i l j c m {k} n e = let t = tells d i l j c m in t.1 ∙ once_keeps r t.0 (known_at rows c) k n e
+
+        came : (d : Demand Cell) → In d ds → (l : List Cell) → In l d.embeddings → (c : Cell) → In c l → Passes (turned r Outside) (known_at q.rows.items) (known_at rows) c
+        came d i l j c m e = let t = tells d i l j c m in once_other r t.0 (known_at rows c) (sym t.1 ∙ e)
+
+        kind : (d : Demand Cell) → q.last ≡ Some d.required → r ≡ d.required
+        kind d s = let e : Some r ≡ Some d.required = sym x.last ∙ s in cc
+
+  -- the way back leads to the parts that are left
+  back_parts : (turns : List Turn) (rows : List (List Mark)) (next : Option Path) → AreCuts (length π) ps ds turns rows → GoesBack ps turns rows next
+      → ((q : Path) → next ≡ Some q → IsPath (length π) ps ds q) × (parts_of ps next ≡ parts_left ps turns rows)
+  back_parts [] rows next c g = (λ q e. absurd (none (sym g ∙ e)), ap (parts_of ps) g)
+  back_parts (t ∷ turns) rows next c g = by t.required (back_parts turns (before t rows) next c.1) g
+    where
+      by : (r : Bool) → (GoesBack ps turns (before t rows) next → ((q : Path) → next ≡ Some q → IsPath (length π) ps ds q) × (parts_of ps next ≡ parts_left ps turns (before t rows)))
+          → Either r (GoesBack ps turns (before t rows) next) ((p : Path) × (next ≡ Some p) × IsEntered true ps t.cell t.from (before t rows) turns p)
+          → ((q : Path) → next ≡ Some q → IsPath (length π) ps ds q)
+          × (parts_of ps next ≡ cond r [] (word_rules.settle true (box_of ps (before t rows)) (query_at ps t.cell) ∷ []) ++ parts_left ps turns (before t rows))
+      by true f g = f g
+      by false f g =
+          let o = c.0 in
+          let e = entered (before t rows) o.marks true t.from t.cell turns g.0 (asked_at (before t rows) o.marks t.cell (o.known, o.next)) o.within o.done o.next c.1 g.2 in (
+            λ q s. subst (IsPath (length π) ps ds) (some (sym g.1 ∙ s)) e.0,
+            ap (parts_of ps) g.1 ∙ e.1,
+          )
+
+  -- its cells are of the rows
+  cuts_turns : (turns : List Turn) (rows : List (List Mark)) → AreCuts (length π) ps ds turns rows → length rows ≡ length π → AreTurns ps turns rows
+  cuts_turns [] rows c n t i = absurd i
+  cuts_turns (s ∷ turns) rows c n t i = by i (cuts_turns turns (before s rows) c.1 (long ∙ n) t)
+    where
+      long : length (before s rows) ≡ length rows
+      long = length-set rows s.cell.child s.row
+
+      e : CanEnter ps (before s rows) s.cell
+      e = let o = c.0 in can_enter (before s rows) o.marks s.cell (asked_at (before s rows) o.marks s.cell (o.known, o.next))
+
+      by : In t (s ∷ turns) → (In t turns → (t.cell.child < length (before s rows)) × (t.cell.pattern < length ps) × (length t.row ≡ length ps)) → (t.cell.child < length rows) × (t.cell.pattern < length ps) × (length t.row ≡ length ps)
+      by (inl q) k = subst (λ (u : Turn). (u.cell.child < length rows) × (u.cell.pattern < length ps) × (length u.row ≡ length ps)) (sym q) (
+        let h = e.child in omega (arith, long),
+        e.pattern,
+        ap length (sym (get_or-set_same rows s.cell.child s.row [] (let h = e.child in omega (arith, long)))) ∙ e.size,
+      )
+      by (inr j) k = subst (λ m. (t.cell.child < m) × (t.cell.pattern < length ps) × (length t.row ≡ length ps)) long (k j)
 
   -- a step can be taken
-  pub can_step : (p : Pending) (ds : List (Demand Cell)) (step : Step) → IsPending (length π) ps p → AreDemandsOf (length π) ps ds (demands π A R)
-      → IsStep step (demands_known (known_at p.rows.items) ds) (next_query (known_at p.rows.items) ds) → CanStep ps p.constraints step
-  can_step p ds Holds i a s = tt
-  can_step p ds Fails i a s = tt
-  can_step p ds (Asks cell) i a s = can_ask p cell i (asked p ds cell i a s)
+  pub can_step : (p : Path) (s : Step) → IsPath (length π) ps ds p → IsStep s (demands_known (known_at p.rows.items) ds) (next_query (known_at p.rows.items) ds) → CanStep ps p s
+  can_step p s i e = by s e
+    where
+      turns : AreTurns ps p.turns.items p.rows.items
+      turns t j = cuts_turns (reverse p.turns.items) p.rows.items i.cuts i.marks.count t (In_reverse p.turns.items t j)
 
-  -- the query of a cell is of the children
-  cell_apt : (p : Pending) (cell : Cell) → Asked p cell → Apt (length π) (query_at ps cell)
-  cell_apt p cell a = subst (Apt (length π)) (sym a.cell_is.query) (apt a.query a.there)
+      sizes : (j : ℕ) → j < length p.rows.items → length (get_or p.rows.items j []) ≡ length ps
+      sizes j h = (i.marks.each j (let n = i.marks.count in omega arith)).size
 
-  -- nothing is known of it
-  cell_open : (p : Pending) (cell : Cell) → Asked p cell → word_rules.answer p.constraints (query_at ps cell) ≡ Open
-  cell_open p cell a = ap (word_rules.answer p.constraints) a.cell_is.query ∙ a.unknown
-
-  -- the box once it is avoided
-  avoiding_pending : (p q : Pending) (cell : Cell) → IsPending (length π) ps p → Asked p cell → q.constraints ≡ word_rules.avoiding p.constraints (query_at ps cell)
-      → q.rows.items ≡ set p.rows.items cell.child (avoided_row ps (get_or ps cell.pattern []) (get_or p.rows.items cell.child [])) → IsPending (length π) ps q
-  avoiding_pending p q cell i a e r =
-      let t = cell_apt p cell a in
-      let h : cell.child < length p.constraints = let n = i.fine.count in let m = t.child in omega arith in
-      record {
-        fine = subst (Fine (length π)) (sym e) (avoiding_fine (length π) p.constraints (query_at ps cell) i.fine t (cell_open p cell a));
-        rows =
-            r
-            ∙ rows_set ps p.constraints cell.child (add_avoid (child_of p.constraints cell.child) (get_or ps cell.pattern [])) p.rows.items (avoided_row ps (get_or ps cell.pattern []) (get_or p.rows.items cell.child [])) i.rows
-            (ap (avoided_row ps (get_or ps cell.pattern [])) (row_at ps p.constraints cell.child p.rows.items i.rows h)
-            ∙ avoided_is (child_of p.constraints cell.child) (get_or ps cell.pattern []) ps (i.fine.fit cell.child t.child).avoid t.word)
-            ∙ ap (rows_of ps) (sym e);
-      }
-
-  -- the box once it is required
-  requiring_pending : (p q : Pending) (cell : Cell) → IsPending (length π) ps p → Asked p cell → q.constraints ≡ word_rules.requiring p.constraints (query_at ps cell)
-      → q.rows.items ≡ set p.rows.items cell.child (required_row ps (get_or ps cell.pattern []) (get_or p.rows.items cell.child [])) → IsPending (length π) ps q
-  requiring_pending p q cell i a e r =
-      let t = cell_apt p cell a in
-      let h : cell.child < length p.constraints = let n = i.fine.count in let m = t.child in omega arith in
-      record {
-        fine = subst (Fine (length π)) (sym e) (requiring_fine (length π) p.constraints (query_at ps cell) i.fine t (cell_open p cell a));
-        rows =
-            r
-            ∙ rows_set ps p.constraints cell.child (add_require (child_of p.constraints cell.child) (get_or ps cell.pattern [])) p.rows.items (required_row ps (get_or ps cell.pattern []) (get_or p.rows.items cell.child [])) i.rows
-            (ap (required_row ps (get_or ps cell.pattern [])) (row_at ps p.constraints cell.child p.rows.items i.rows h)
-            ∙ required_is (child_of p.constraints cell.child) (get_or ps cell.pattern []) ps (i.fine.fit cell.child t.child).require t.word (cell_open p cell a))
-            ∙ ap (rows_of ps) (sym e);
-      }
-
-  -- a box that gives some boxes at once is done with
-  settled : (p : Pending) (front : List Pending) (found now given : List Box) → Each (IsPending (length π) ps) (front ++ p ∷ []) → boxes_by word_rules all p.constraints ≡ given → now ≡ found ++ given
-      → found ++ todo all (front ++ p ∷ []) ≡ boxes π A R → Advanced π A R ps (front ++ p ∷ []) front now
-  settled p front found now given k e n t = record {
-    known = λ x i. k x (append_left front (p ∷ []) x i);
-    boxes =
-        ap (λ (l : List Box). l ++ todo all front) n
-        ∙ append_assoc found given (todo all front)
-        ∙ ap (λ (l : List Box). found ++ (l ++ todo all front)) (sym e)
-        ∙ ap (λ (l : List Box). found ++ l) (sym (todo_snoc all front p))
-        ∙ t;
-    less = omega (arith, weights_snoc all front p, weight_some (open_count (word_rules.answer p.constraints) (queries_of all)));
-  }
-
-  -- a box that is cut leaves two
-  halved : (p : Pending) (cell : Cell) (front after : List Pending) (found now : List Box) → IsPending (length π) ps p → Each (IsPending (length π) ps) (front ++ p ∷ []) → Asked p cell
-      → demands_known (word_rules.answer p.constraints) all ≡ Open → IsCut ps cell p front after → now ≡ found → found ++ todo all (front ++ p ∷ []) ≡ boxes π A R
-      → Advanced π A R ps (front ++ p ∷ []) after now
-  halved p cell front after found now i k a o c n t =
-      let q : Query = query_at ps cell in
-      let law = word_law (length π) in
-      let avoiding = avoiding_pending p c.avoiding cell i a c.avoided c.avoided_rows in
-      let requiring = requiring_pending p c.requiring cell i a c.required c.required_rows in
-      let there : In q (queries_of all) = subst (λ z. In z (queries_of all)) (sym a.cell_is.query) a.there in
-      let next : next_query (word_rules.answer p.constraints) all ≡ Some q = a.next ∙ ap (λ z. Some z) (sym a.cell_is.query) in
-      let more = boxes_more word_rules (Fine (length π)) (Apt (length π)) law all apt p.constraints q i.fine o next (cell_open p cell a) there in
-      let fewer = fewer_avoiding word_rules (Fine (length π)) (Apt (length π)) law all apt p.constraints q i.fine there (cell_open p cell a) in
-      let less = fewer_requiring word_rules (Fine (length π)) (Apt (length π)) law all apt p.constraints q i.fine there (cell_open p cell a) in
-      let fewer' : open_count (word_rules.answer c.avoiding.constraints) (queries_of all) < open_count (word_rules.answer p.constraints) (queries_of all) =
-      subst (λ (b : Box). open_count (word_rules.answer b) (queries_of all) < open_count (word_rules.answer p.constraints) (queries_of all)) (sym c.avoided) fewer in
-      let less' : open_count (word_rules.answer c.requiring.constraints) (queries_of all) < open_count (word_rules.answer p.constraints) (queries_of all) =
-      subst (λ (b : Box). open_count (word_rules.answer b) (queries_of all) < open_count (word_rules.answer p.constraints) (queries_of all)) (sym c.required) less in
-      record {
-        known =
-            subst (Each (IsPending (length π) ps)) (sym c.stack)
-            (each_snoc (IsPending (length π) ps) (front ++ c.requiring ∷ []) c.avoiding
-            (each_snoc (IsPending (length π) ps) front c.requiring (λ x j. k x (append_left front (p ∷ []) x j)) requiring) avoiding);
-        boxes =
-            ap₂ (λ (l : List Box) (s : List Pending). l ++ todo all s) n c.stack
-            ∙ ap (λ (l : List Box). found ++ l)
-            (todo_snoc all (front ++ c.requiring ∷ []) c.avoiding
-            ∙ ap₂ (λ (x y : List Box). x ++ y) (ap (boxes_by word_rules all) c.avoided) (todo_snoc all front c.requiring ∙ ap (λ (b : Box). boxes_by word_rules all b ++ todo all front) c.required)
-            ∙ sym (append_assoc (boxes_by word_rules all (word_rules.avoiding p.constraints q)) (boxes_by word_rules all (word_rules.requiring p.constraints q)) (todo all front))
-            ∙ ap (λ (l : List Box). l ++ todo all front) (sym more)
-            ∙ sym (todo_snoc all front p))
-            ∙ t;
-        less =
-            let w = ap (weights all) c.stack in
-            omega (
-              arith,
-              w,
-              weights_snoc all (front ++ c.requiring ∷ []) c.avoiding,
-              weights_snoc all front c.requiring,
-              weights_snoc all front p,
-              weight_two (open_count (word_rules.answer c.avoiding.constraints) (queries_of all)) (open_count (word_rules.answer c.requiring.constraints) (queries_of all)) (open_count (word_rules.answer p.constraints) (queries_of all)) fewer' less',
-            );
-      }
+      by : (s : Step) → IsStep s (demands_known (known_at p.rows.items) ds) (next_query (known_at p.rows.items) ds) → CanStep ps p s
+      by Holds e = (sizes, turns)
+      by Fails e = (sizes, turns)
+      by (Asks cell) e = can_enter p.rows.items i.marks cell (asked_at p.rows.items i.marks cell e)
 
   -- a turn of the loop
-  pub advanced : (p : Pending) (ds : List (Demand Cell)) (step : Step) (front after : List Pending) (found now : List Box) → Each (IsPending (length π) ps) (front ++ p ∷ [])
-      → AreDemandsOf (length π) ps ds (demands π A R) → IsStep step (demands_known (known_at p.rows.items) ds) (next_query (known_at p.rows.items) ds)
-      → Advances ps step p front after found now → found ++ todo (demands π A R) (front ++ p ∷ []) ≡ boxes π A R → Advanced π A R ps (front ++ p ∷ []) after now
-  advanced p ds step front after found now k a s v t = by step s v
+  pub turn : (p : Path) (n : ℕ) (s : Step) (next : Option Path) (found : Option Box) → IsPath (length π) ps ds p → n ≤ length ds → all_of (demand_known (known_at p.rows.items)) (take n ds) ≡ Inside
+      → IsStep s (demands_known (known_at p.rows.items) ds) (next_query (known_at p.rows.items) ds) → Advances ps s n p found next → Advanced (length π) ps ds (demands π A R) (parts_of ps (Some p)) next (given found)
+  turn p n s next found i m done step v = by s step v
     where
-      i : IsPending (length π) ps p
-      i = k p (append_right front (p ∷ []) p (inl refl))
+      all : List (Demand Query)
+      all = demands π A R
 
-      same : demands_known (known_at p.rows.items) ds ≡ demands_known (word_rules.answer p.constraints) all
-      same = demands_same (length π) ps (known_at p.rows.items) (word_rules.answer p.constraints) (agree p i) ds (demands π A R) a
+      b : Box
+      b = box_of ps p.rows.items
 
-      by : (step : Step) → IsStep step (demands_known (known_at p.rows.items) ds) (next_query (known_at p.rows.items) ds) → Advances ps step p front after found now
-          → Advanced π A R ps (front ++ p ∷ []) after now
-      by Holds s v =
-          subst (λ l. Advanced π A R ps (front ++ p ∷ []) l now) (sym v.0)
-          (settled p front found now (p.constraints ∷ []) k
-          (split_inside word_rules (Fine (length π)) (Apt (length π)) (word_law (length π)) all apt (length (queries_of all)) p.constraints (sym same ∙ s)) v.1 t)
-      by Fails s v =
-          subst (λ l. Advanced π A R ps (front ++ p ∷ []) l now) (sym v.0)
-          (settled p front found now [] k
-          (split_outside word_rules (Fine (length π)) (Apt (length π)) (word_law (length π)) all apt (length (queries_of all)) p.constraints (sym same ∙ s)) (v.1 ∙ sym (append-nil found)) t)
-      by (Asks cell) s v = halved p cell front after found now i k (asked p ds cell i a s) (sym same ∙ s.0) v.0 v.1 t
+      later : List Box
+      later = parts_left ps (reverse p.turns.items) p.rows.items
 
-  -- the same for a stack that ends with the box, and rows that are its
-  pub turn : (p : Pending) (rows : List (List Known)) (ds : List (Demand Cell)) (step : Step) (stack front after : List Pending) (found now : List Box) → stack ≡ front ++ p ∷ []
-      → Each (IsPending (length π) ps) stack → AreDemandsOf (length π) ps ds (demands π A R) → rows ≡ p.rows.items
-      → IsStep step (demands_known (known_at rows) ds) (next_query (known_at rows) ds) → Advances ps step p front after found now → found ++ todo (demands π A R) stack ≡ boxes π A R
-      → Advanced π A R ps stack after now
-  turn p rows ds step stack front after found now e k a r s v t =
-      subst (λ l. Advanced π A R ps l after now) (sym e)
-      (advanced p ds step front after found now (subst (Each (IsPending (length π) ps)) e k) a
-      (subst (λ (l : List (List Known)). IsStep step (demands_known (known_at l) ds) (next_query (known_at l) ds)) r s) v
-      (ap (λ (l : List Pending). found ++ todo (demands π A R) l) (sym e) ∙ t))
+      passed : boxes_by word_rules (demands π A R) (box_of ps p.rows.items) ≡ given found → GoesBack ps (reverse p.turns.items) p.rows.items next
+          → Advanced (length π) ps ds (demands π A R) (parts_of ps (Some p)) next (given found)
+      passed e g =
+          let r = back_parts (reverse p.turns.items) p.rows.items next i.cuts g in
+          record {
+            path = r.0;
+            boxes = ap₂ (λ (x y : List Box). x ++ y) e (ap (flat_map (boxes_by word_rules all)) (sym r.1));
+            less = let w = ap (weights all) r.1 in omega (arith, w, weight_some (open_count (word_rules.answer b) (queries_of all)));
+          }
 
-  -- at the start the stack has the box of free constraints
-  pub started : (p : Pending) (stack : List Pending) (found : List Box) (n : ℕ) → stack ≡ p ∷ [] → n ≡ length π → p.constraints ≡ replicate n free → p.rows.items ≡ rows_of ps p.constraints → found ≡ []
-      → Each (IsPending (length π) ps) stack × (found ++ todo (demands π A R) stack ≡ boxes π A R)
-  started p stack found n e l f r none =
-      let is : p.constraints ≡ replicate (length π) free = f ∙ ap (λ (m : ℕ). replicate m free) l in (
-        λ x i. subst (IsPending (length π) ps) (sym (In_one x p (subst (In x) e i))) (record { fine = subst (Fine (length π)) (sym is) (start_fine (length π)); rows = r }),
-        ap₂ (λ (b : List Box) (s : List Pending). b ++ todo (demands π A R) s) none e ∙ ap (boxes_by word_rules (demands π A R)) is,
-      )
+      cut : (cell : Cell) → Asked p.rows.items i.marks cell → next_query (known_at p.rows.items) ds ≡ Some cell → (q : Path) → next ≡ Some q → found ≡ None → IsEntered false ps cell n p.rows.items (reverse p.turns.items) q
+          → Advanced (length π) ps ds (demands π A R) (parts_of ps (Some p)) next (given found)
+      cut cell a o q e f x =
+          let c = entered p.rows.items i.marks false n cell (reverse p.turns.items) q a m done o i.cuts x in
+          let fine : Fine (length π) b = rows_fine (length π) ps p.rows.items i.marks in
+          let more = boxes_more word_rules (Fine (length π)) (Apt (length π)) (word_law (length π)) all apt b (query_at ps cell) fine a.asks in
+          let part : Bool → Box = λ r. word_rules.settle r b (query_at ps cell) in
+          let is : parts_of ps next ≡ part false ∷ part true ∷ later = ap (parts_of ps) e ∙ c.1 in
+          record {
+            path = λ z s. subst (IsPath (length π) ps ds) (some (sym e ∙ s)) c.0;
+            boxes =
+                ap (λ (l : List Box). l ++ flat_map (boxes_by word_rules all) later) more
+                ∙ append_assoc (boxes_by word_rules all (part false)) (boxes_by word_rules all (part true)) (flat_map (boxes_by word_rules all) later)
+                ∙ ap₂ (λ (x y : List Box). x ++ flat_map (boxes_by word_rules all) y) (sym (ap given f)) (sym is);
+            less =
+                let w = ap (weights all) is in
+                omega (
+                  arith,
+                  w,
+                  weight_two (open_count (word_rules.answer (part false)) (queries_of all)) (open_count (word_rules.answer (part true)) (queries_of all)) (open_count (word_rules.answer b) (queries_of all))
+                      (fewer word_rules (Fine (length π)) (Apt (length π)) (word_law (length π)) all apt false b (query_at ps cell) fine a.asks)
+                      (fewer word_rules (Fine (length π)) (Apt (length π)) (word_law (length π)) all apt true b (query_at ps cell) fine a.asks),
+                );
+          }
 
--- the last box of a stack
-pub last_of : {A : Type 0} (P : A → Type 0) (stack front : List A) (p : A) → stack ≡ front ++ p ∷ [] → Each P stack → P p
-last_of P stack front p e k = k p (subst (In p) (sym e) (append_right front (p ∷ []) p (inl refl)))
+      by : (s : Step) → IsStep s (demands_known (known_at p.rows.items) ds) (next_query (known_at p.rows.items) ds) → Advances ps s n p found next
+          → Advanced (length π) ps ds (demands π A R) (parts_of ps (Some p)) next (given found)
+      by Holds e v = passed (boxes_inside word_rules (Fine (length π)) (Apt (length π)) (word_law (length π)) (demands π A R) apt (box_of ps p.rows.items) (sym (same_known p.rows.items i.marks) ∙ e) ∙ ap given (sym v.0)) v.1
+      by Fails e v = passed (boxes_outside word_rules (Fine (length π)) (Apt (length π)) (word_law (length π)) (demands π A R) apt (box_of ps p.rows.items) (sym (same_known p.rows.items i.marks) ∙ e) ∙ ap given (sym v.0)) v.1
+      by (Asks cell) e v = cut cell (asked_at p.rows.items i.marks cell e) e.1 v.1 v.2 v.0 v.3
+
+-- a turn of the walk
+pub record Walked (π : List ℕ) (A R ps : List (List ℕ)) (ds : List (Demand Cell)) (rest next : Option Path) (found : Option Box) : Type 0 where
+  pub walk : IsWalk π A R ps ds next
+  pub left : left_of (demands π A R) ps rest ≡ given found ++ left_of (demands π A R) ps next
+  pub less : weights (demands π A R) (parts_of ps next) < weights (demands π A R) (parts_of ps rest)
+
+module _ (π : List ℕ) (A R ps : List (List ℕ)) (ds : List (Demand Cell)) (rest : Option Path) (p : Path) (w : IsWalk π A R ps ds rest) (e : rest ≡ Some p) where
+  pub walk_cells : HaveCellsOf p.rows.items ds
+  walk_cells = cells_there π A R ps ds w.avoid w.require w.asked p.rows.items (w.path p e).marks
+
+  pub walk_step : (s : Step) → IsStep s (demands_known (known_at p.rows.items) ds) (next_query (known_at p.rows.items) ds) → CanStep ps p s
+  walk_step s = can_step π A R ps ds w.avoid w.require w.asked p s (w.path p e)
+
+  pub walk_turn : (n : ℕ) (s : Step) (next : Option Path) (found : Option Box) → n ≤ length ds → all_of (demand_known (known_at p.rows.items)) (take n ds) ≡ Inside
+      → IsStep s (demands_known (known_at p.rows.items) ds) (next_query (known_at p.rows.items) ds) → Advances ps s n p found next → Walked π A R ps ds rest next found
+  walk_turn n s next found m done step v =
+      let t = turn π A R ps ds w.avoid w.require w.asked p n s next found (w.path p e) m done step v in
+      record {
+        walk = record { avoid = w.avoid; require = w.require; asked = w.asked; path = t.path };
+        left = ap (left_of (demands π A R) ps) e ∙ t.boxes;
+        less = let l = t.less in subst (λ x. weights (demands π A R) (parts_of ps next) < weights (demands π A R) (parts_of ps x)) (sym e) l;
+      }
+
+-- a list of free rows
+free_rows : (k : ℕ) (ps : List (List ℕ)) → AreRows k ps (replicate k (map free_mark ps))
+free_rows k ps = record {
+  count = length-replicate k (map free_mark ps);
+  each = λ i h. subst (IsRow ps) (sym (get_or-replicate k i (map free_mark ps) [] h)) (free_row ps);
+}
+
+-- the box in which nothing is avoided or required
+free_box : (k : ℕ) (ps : List (List ℕ)) → box_of ps (replicate k (map free_mark ps)) ≡ replicate k free
+free_box zero ps = refl
+free_box (suc k) ps = ap₂ (λ (c : Constraint) (b : Box). c ∷ b) (free_is ps) (free_box k ps)
+
+-- at the start the path leads to it, with no cut
+pub starts : (π : List ℕ) (A R ps : List (List ℕ)) (ds : List (Demand Cell)) (p : Path) (n : ℕ) → Each IsWord A → Each IsWord R → AreDemandsOf (length π) ps ds (demands π A R) → n ≡ length π
+    → p.rows.items ≡ replicate n (map free_mark ps) → p.from ≡ 0 → p.last ≡ None → p.turns.items ≡ [] → IsWalk π A R ps ds (Some p) × (left_of (demands π A R) ps (Some p) ≡ boxes π A R)
+starts π A R ps ds p n ga gr asked l r f z t =
+    let is : p.rows.items ≡ replicate (length π) (map free_mark ps) = r ∙ ap (λ m. replicate m (map free_mark ps)) l in (
+      record {
+        avoid = ga;
+        require = gr;
+        asked = asked;
+        path = λ q e. subst (IsPath (length π) ps ds) (some e) (record {
+          marks = subst (AreRows (length π) ps) (sym is) (free_rows (length π) ps);
+          within = omega (arith, f);
+          done = ap (λ m. all_of (demand_known (known_at p.rows.items)) (take m ds)) f;
+          safe = λ d j s o. none (sym z ∙ s);
+          cuts = subst (λ l. AreCuts (length π) ps ds (reverse l) p.rows.items) (sym t) tt;
+        });
+      },
+      ap (λ l. boxes_by word_rules (demands π A R) (box_of ps p.rows.items) ++ flat_map (boxes_by word_rules (demands π A R)) (parts_left ps (reverse l) p.rows.items)) t
+          ∙ append-nil (boxes_by word_rules (demands π A R) (box_of ps p.rows.items))
+          ∙ ap (boxes_by word_rules (demands π A R)) (ap (box_of ps) is ∙ free_box (length π) ps),
+    )
 
 -- the words of a list of words in place
 pub perms_words : (ws : List (List ℕ)) → ArePerms ws → Each IsWord ws

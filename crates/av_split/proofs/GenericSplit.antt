@@ -8,14 +8,14 @@ use Rattle.av_name.specs.declared.constraints.Known.TheVariants.{In as Inside, O
 use Rattle.av_split.specs.Split.{both, either, turned, all_of, some_of, Demand, demand_known, demands_known, at_open, first_open, next_query, Rules, outcome, split_by, queries_of, boxes_by, NeverStuck}
 
 -- Known facts are true
-both_inside : (x y : Known) → both x y ≡ Inside → (x ≡ Inside) × (y ≡ Inside)
+pub both_inside : (x y : Known) → both x y ≡ Inside → (x ≡ Inside) × (y ≡ Inside)
 both_inside Inside y e = (refl, e)
 both_inside Outside y e = absurd (cc)
 both_inside Open Inside e = absurd (cc)
 both_inside Open Outside e = absurd (cc)
 both_inside Open Open e = absurd (cc)
 
-both_outside : (x y : Known) → both x y ≡ Outside → (x ≡ Outside) ⊎ (y ≡ Outside)
+pub both_outside : (x y : Known) → both x y ≡ Outside → (x ≡ Outside) ⊎ (y ≡ Outside)
 both_outside Inside y e = inr e
 both_outside Outside y e = inl refl
 both_outside Open Inside e = absurd (cc)
@@ -27,14 +27,14 @@ both_open Inside y e = inr (refl, e)
 both_open Outside y e = absurd (cc)
 both_open Open y e = inl refl
 
-either_inside : (x y : Known) → either x y ≡ Inside → (x ≡ Inside) ⊎ (y ≡ Inside)
+pub either_inside : (x y : Known) → either x y ≡ Inside → (x ≡ Inside) ⊎ (y ≡ Inside)
 either_inside Inside y e = inl refl
 either_inside Outside y e = inr e
 either_inside Open Inside e = inr refl
 either_inside Open Outside e = absurd (cc)
 either_inside Open Open e = absurd (cc)
 
-either_outside : (x y : Known) → either x y ≡ Outside → (x ≡ Outside) × (y ≡ Outside)
+pub either_outside : (x y : Known) → either x y ≡ Outside → (x ≡ Outside) × (y ≡ Outside)
 either_outside Inside y e = absurd (cc)
 either_outside Outside y e = (refl, e)
 either_outside Open Inside e = absurd (cc)
@@ -154,7 +154,7 @@ finds_in_some f g Good (x ∷ xs) h e = elim (either_open (f x) (some_of f xs) e
   | inr q ↦ let r = finds_in_some f g Good xs (λ y i. h y (inr i)) q.1 in (r.0, ap (λ k. at_open k (g x) (first_open f g xs)) q.0 ∙ r.1, r.2)
 ]
 
-turned_open : (w : Bool) (k : Known) → turned w k ≡ Open → k ≡ Open
+pub turned_open : (w : Bool) (k : Known) → turned w k ≡ Open → k ≡ Open
 turned_open true k e = e
 turned_open false Inside e = absurd (cc)
 turned_open false Outside e = absurd (cc)
@@ -210,20 +210,16 @@ open_count_less f g (q ∷ qs) p h (inl s) e n =
     omega (arith, open_count_mono f g qs (λ r i. h r (inr i)))
 open_count_less f g (q ∷ qs) p h (inr i) e n = omega (arith, open_one_mono (f q) (g q) (h q (inl refl)), open_count_less f g qs p (λ r j. h r (inr j)) i e n)
 
--- Boxes of a kind `Fine`, asked of queries_of of a kind `Apt`: answers that are settled stay settled, and each query that is asked becomes so
+-- Boxes of a kind `Fine`, asked queries of a kind `Apt`: what is known stays known, and each query that is asked becomes so
 pub record Lawful {B Q : Type 0} (r : Rules B Q) (Fine : B → Type 0) (Apt : Q → Type 0) : Type 0 where
-  pub avoiding_fine : (b : B) (q : Q) → Fine b → Apt q → r.answer b q ≡ Open → Fine (r.avoiding b q)
-  pub requiring_fine : (b : B) (q : Q) → Fine b → Apt q → r.answer b q ≡ Open → Fine (r.requiring b q)
-  pub avoiding_settles : (b : B) (q : Q) → Fine b → Apt q → r.answer b q ≡ Open → r.answer (r.avoiding b q) q ≡ Open → ⊥
-  pub requiring_settles : (b : B) (q : Q) → Fine b → Apt q → r.answer b q ≡ Open → r.answer (r.requiring b q) q ≡ Open → ⊥
-  pub avoiding_keeps : (b : B) (q p : Q) → Fine b → Apt q → Apt p → r.answer b q ≡ Open → r.answer (r.avoiding b q) p ≡ Open → r.answer b p ≡ Open
-  pub requiring_keeps : (b : B) (q p : Q) → Fine b → Apt q → Apt p → r.answer b q ≡ Open → r.answer (r.requiring b q) p ≡ Open → r.answer b p ≡ Open
+  pub fine : (w : Bool) (b : B) (q : Q) → Fine b → Apt q → r.answer b q ≡ Open → Fine (r.settle w b q)
+  pub settles : (w : Bool) (b : B) (q : Q) → Fine b → Apt q → r.answer b q ≡ Open → r.answer (r.settle w b q) q ≡ Open → ⊥
+  pub keeps : (w : Bool) (b : B) (q p : Q) → Fine b → Apt q → Apt p → r.answer b q ≡ Open → r.answer (r.settle w b q) p ≡ Open → r.answer b p ≡ Open
 
--- what lies in a box (`Lies`) and the queries_of that hold (`H`), for one list of blocks
+-- what lies in a box (`Lies`) and the queries that hold (`H`), for one list of blocks
 pub record Meant {B Q : Type 0} (r : Rules B Q) (Fine : B → Type 0) (Apt : Q → Type 0) (Lies : B → Type 0) (H : Q → Type 0) : Type 0 where
   pub says : (b : B) (q : Q) → Fine b → Apt q → Lies b → Says (r.answer b) H q
-  pub avoiding_lies : (b : B) (q : Q) → Fine b → Apt q → r.answer b q ≡ Open → Lies (r.avoiding b q) ↔ (Lies b × (H q → ⊥))
-  pub requiring_lies : (b : B) (q : Q) → Fine b → Apt q → r.answer b q ≡ Open → Lies (r.requiring b q) ↔ (Lies b × H q)
+  pub lies : (w : Bool) (b : B) (q : Q) → Fine b → Apt q → r.answer b q ≡ Open → Lies (r.settle w b q) ↔ (Lies b × MetIf w (H q))
   pub decided : (q : Q) → Apt q → H q ⊎ (H q → ⊥)
 
 known_cases : (k : Known) → (k ≡ Outside) ⊎ ((k ≡ Inside) ⊎ (k ≡ Open))
@@ -250,186 +246,139 @@ Apart_at P (x ∷ xs) zero (suc j) d a h k p q = a.0 (get_or xs j d) (In_at xs j
 Apart_at P (x ∷ xs) (suc i) zero d a h k p q = absurd (omega arith)
 Apart_at P (x ∷ xs) (suc i) (suc j) d a h k p q = Apart_at P xs i j d a.1 (omega arith) (omega arith) p q
 
+-- an open box and its next query
+pub record Asks {B Q : Type 0} (r : Rules B Q) (ds : List (Demand Q)) (b : B) (q : Q) : Type 0 where
+  pub known : demands_known (r.answer b) ds ≡ Open
+  pub next : next_query (r.answer b) ds ≡ Some q
+  pub unknown : r.answer b q ≡ Open
+  pub there : In q (queries_of ds)
+
+pub asks : {B Q : Type 0} (r : Rules B Q) (ds : List (Demand Q)) (b : B) → demands_known (r.answer b) ds ≡ Open → (q : Q) × Asks r ds b q
+asks r ds b k = let n = next_finds (r.answer b) ds k in (n.0, record { known = k; next = n.1; unknown = n.2.0; there = n.2.1 })
+
 -- the three rules
-outcome_outside : {B Q : Type 0} (k : Known) (b : B) (n : Option Q) (m : Q → List B) → k ≡ Outside → outcome k b n m ≡ []
-outcome_outside k b n m e = ap (λ l. outcome l b n m) e
+split_outside : {B Q : Type 0} (r : Rules B Q) (ds : List (Demand Q)) (d : ℕ) (b : B) → demands_known (r.answer b) ds ≡ Outside → split_by r ds d b ≡ []
+split_outside r ds zero b e = ap (λ k. outcome k b (next_query (r.answer b) ds) (λ q. [])) e
+split_outside r ds (suc d) b e = ap (λ k. outcome k b (next_query (r.answer b) ds) (λ q. split_by r ds d (r.settle false b q) ++ split_by r ds d (r.settle true b q))) e
 
-outcome_inside : {B Q : Type 0} (k : Known) (b : B) (n : Option Q) (m : Q → List B) → k ≡ Inside → outcome k b n m ≡ b ∷ []
-outcome_inside k b n m e = ap (λ l. outcome l b n m) e
+split_inside : {B Q : Type 0} (r : Rules B Q) (ds : List (Demand Q)) (d : ℕ) (b : B) → demands_known (r.answer b) ds ≡ Inside → split_by r ds d b ≡ b ∷ []
+split_inside r ds zero b e = ap (λ k. outcome k b (next_query (r.answer b) ds) (λ q. [])) e
+split_inside r ds (suc d) b e = ap (λ k. outcome k b (next_query (r.answer b) ds) (λ q. split_by r ds d (r.settle false b q) ++ split_by r ds d (r.settle true b q))) e
 
-outcome_open : {B Q : Type 0} (k : Known) (b : B) (n : Option Q) (m : Q → List B) (q : Q) → k ≡ Open → n ≡ Some q → outcome k b n m ≡ m q
-outcome_open k b n m q e h = ap₂ (λ l o. outcome l b o m) e h
+split_more : {B Q : Type 0} (r : Rules B Q) (ds : List (Demand Q)) (d : ℕ) (b : B) (q : Q) → Asks r ds b q → split_by r ds (suc d) b ≡ split_by r ds d (r.settle false b q) ++ split_by r ds d (r.settle true b q)
+split_more r ds d b q a = ap₂ (λ k o. outcome k b o (λ q. split_by r ds d (r.settle false b q) ++ split_by r ds d (r.settle true b q))) a.known a.next
 
 module _ {B Q : Type 0} (r : Rules B Q) (Fine : B → Type 0) (Apt : Q → Type 0) (law : Lawful r Fine Apt) (ds : List (Demand Q)) (apt : Each Apt (queries_of ds)) where
-  pub fewer_avoiding : (b : B) (q : Q) → Fine b → In q (queries_of ds) → r.answer b q ≡ Open → open_count (r.answer (r.avoiding b q)) (queries_of ds) < open_count (r.answer b) (queries_of ds)
-  fewer_avoiding b q f i e = open_count_less (r.answer (r.avoiding b q)) (r.answer b) (queries_of ds) q (λ p j k. law.avoiding_keeps b q p f (apt q i) (apt p j) e k) i e (law.avoiding_settles b q f (apt q i) e)
+  pub fewer : (w : Bool) (b : B) (q : Q) → Fine b → Asks r ds b q → open_count (r.answer (r.settle w b q)) (queries_of ds) < open_count (r.answer b) (queries_of ds)
+  fewer w b q f a =
+      open_count_less (r.answer (r.settle w b q)) (r.answer b) (queries_of ds) q (λ p j k. law.keeps w b q p f (apt q a.there) (apt p j) a.unknown k) a.there a.unknown (law.settles w b q f (apt q a.there) a.unknown)
 
-  pub fewer_requiring : (b : B) (q : Q) → Fine b → In q (queries_of ds) → r.answer b q ≡ Open → open_count (r.answer (r.requiring b q)) (queries_of ds) < open_count (r.answer b) (queries_of ds)
-  fewer_requiring b q f i e = open_count_less (r.answer (r.requiring b q)) (r.answer b) (queries_of ds) q (λ p j k. law.requiring_keeps b q p f (apt q i) (apt p j) e k) i e (law.requiring_settles b q f (apt q i) e)
-
-  pub split_outside : (d : ℕ) (b : B) → demands_known (r.answer b) ds ≡ Outside → split_by r ds d b ≡ []
-  split_outside zero b e = outcome_outside (demands_known (r.answer b) ds) b (next_query (r.answer b) ds) (λ q. []) e
-  split_outside (suc d) b e = outcome_outside (demands_known (r.answer b) ds) b (next_query (r.answer b) ds) (λ q. split_by r ds d (r.avoiding b q) ++ split_by r ds d (r.requiring b q)) e
-
-  pub split_inside : (d : ℕ) (b : B) → demands_known (r.answer b) ds ≡ Inside → split_by r ds d b ≡ b ∷ []
-  split_inside zero b e = outcome_inside (demands_known (r.answer b) ds) b (next_query (r.answer b) ds) (λ q. []) e
-  split_inside (suc d) b e = outcome_inside (demands_known (r.answer b) ds) b (next_query (r.answer b) ds) (λ q. split_by r ds d (r.avoiding b q) ++ split_by r ds d (r.requiring b q)) e
-
-  split_more : (d : ℕ) (b : B) (q : Q) → demands_known (r.answer b) ds ≡ Open → next_query (r.answer b) ds ≡ Some q → split_by r ds (suc d) b ≡ split_by r ds d (r.avoiding b q) ++ split_by r ds d (r.requiring b q)
-  split_more d b q e h = outcome_open (demands_known (r.answer b) ds) b (next_query (r.answer b) ds) (λ q. split_by r ds d (r.avoiding b q) ++ split_by r ds d (r.requiring b q)) q e h
-
-  split_stuck : (b : B) (q : Q) → demands_known (r.answer b) ds ≡ Open → next_query (r.answer b) ds ≡ Some q → split_by r ds 0 b ≡ []
-  split_stuck b q e h = outcome_open (demands_known (r.answer b) ds) b (next_query (r.answer b) ds) (λ q. []) q e h
-
-  -- rule 3 is never needed at 0: with as many steps as there are open queries_of, a further step changes nothing
-  pub split_enough : (d : ℕ) (b : B) → Fine b → open_count (r.answer b) (queries_of ds) ≤ d → split_by r ds (suc d) b ≡ split_by r ds d b
-  split_enough zero b f h = elim (known_cases (demands_known (r.answer b) ds)) [
-    | inl k ↦ split_outside 1 b k ∙ sym (split_outside 0 b k)
-    | inr (inl k) ↦ split_inside 1 b k ∙ sym (split_inside 0 b k)
-    | inr (inr k) ↦ let n = next_finds (r.answer b) ds k in absurd (omega (arith, fewer_avoiding b n.0 f n.2.1 n.2.0))
+  -- what holds of a box that is dropped, of one that is given, and, where it holds of both parts of a cut, of the whole, holds
+  -- of each box and what it is cut into, with as many steps as it has open queries
+  pub split_induct : (P : B → List B → Type 0) → ((b : B) → Fine b → demands_known (r.answer b) ds ≡ Outside → P b []) → ((b : B) → Fine b → demands_known (r.answer b) ds ≡ Inside → P b (b ∷ []))
+      → ((b : B) (q : Q) (xs ys : List B) → Fine b → Asks r ds b q → P (r.settle false b q) xs → P (r.settle true b q) ys → P b (xs ++ ys))
+      → (d : ℕ) (b : B) → Fine b → open_count (r.answer b) (queries_of ds) ≤ d → P b (split_by r ds d b)
+  split_induct P dropped given cut zero b f h = elim (known_cases (demands_known (r.answer b) ds)) [
+    | inl k ↦ subst (P b) (sym (split_outside r ds 0 b k)) (dropped b f k)
+    | inr (inl k) ↦ subst (P b) (sym (split_inside r ds 0 b k)) (given b f k)
+    | inr (inr k) ↦ let a = asks r ds b k in absurd (omega (arith, fewer false b a.0 f a.1))
   ]
-  split_enough (suc d) b f h = elim (known_cases (demands_known (r.answer b) ds)) [
-    | inl k ↦ split_outside (suc (suc d)) b k ∙ sym (split_outside (suc d) b k)
-    | inr (inl k) ↦ split_inside (suc (suc d)) b k ∙ sym (split_inside (suc d) b k)
+  split_induct P dropped given cut (suc d) b f h = elim (known_cases (demands_known (r.answer b) ds)) [
+    | inl k ↦ subst (P b) (sym (split_outside r ds (suc d) b k)) (dropped b f k)
+    | inr (inl k) ↦ subst (P b) (sym (split_inside r ds (suc d) b k)) (given b f k)
     | inr (inr k) ↦
-        let n = next_finds (r.answer b) ds k in
-        split_more (suc d) b n.0 k n.1
-        ∙ ap₂ (λ x y. x ++ y)
-        (split_enough d (r.avoiding b n.0) (law.avoiding_fine b n.0 f (apt n.0 n.2.1) n.2.0) (omega (arith, fewer_avoiding b n.0 f n.2.1 n.2.0)))
-        (split_enough d (r.requiring b n.0) (law.requiring_fine b n.0 f (apt n.0 n.2.1) n.2.0) (omega (arith, fewer_requiring b n.0 f n.2.1 n.2.0)))
-        ∙ sym (split_more d b n.0 k n.1)
+        let a = asks r ds b k in
+        subst (P b) (sym (split_more r ds d b a.0 a.1))
+        (cut b a.0 (split_by r ds d (r.settle false b a.0)) (split_by r ds d (r.settle true b a.0)) f a.1
+        (split_induct P dropped given cut d (r.settle false b a.0) (law.fine false b a.0 f (apt a.0 a.1.there) a.1.unknown) (omega (arith, fewer false b a.0 f a.1)))
+        (split_induct P dropped given cut d (r.settle true b a.0) (law.fine true b a.0 f (apt a.0 a.1.there) a.1.unknown) (omega (arith, fewer true b a.0 f a.1))))
   ]
 
-  -- each box that is given has its demands met
-  pub split_done : (d : ℕ) (b x : B) → In x (split_by r ds d b) → demands_known (r.answer x) ds ≡ Inside
-  split_done zero b x i = elim (known_cases (demands_known (r.answer b) ds)) [
-    | inl k ↦ absurd (subst (In x) (split_outside 0 b k) i)
-    | inr (inl k) ↦ subst (λ y. demands_known (r.answer y) ds ≡ Inside) (sym (In_one x b (subst (In x) (split_inside 0 b k) i))) k
-    | inr (inr k) ↦ let n = next_finds (r.answer b) ds k in absurd (subst (In x) (split_stuck b n.0 k n.1) i)
-  ]
-  split_done (suc d) b x i = elim (known_cases (demands_known (r.answer b) ds)) [
-    | inl k ↦ absurd (subst (In x) (split_outside (suc d) b k) i)
-    | inr (inl k) ↦ subst (λ y. demands_known (r.answer y) ds ≡ Inside) (sym (In_one x b (subst (In x) (split_inside (suc d) b k) i))) k
-    | inr (inr k) ↦
-        let n = next_finds (r.answer b) ds k in
-        elim (In_append_cases (split_by r ds d (r.avoiding b n.0)) (split_by r ds d (r.requiring b n.0)) x (subst (In x) (split_more d b n.0 k n.1) i)) [
-          | inl j ↦ split_done d (r.avoiding b n.0) x j
-          | inr j ↦ split_done d (r.requiring b n.0) x j
-        ]
-  ]
+  -- the same for the boxes that a box is cut into
+  pub boxes_induct : (P : B → List B → Type 0) → ((b : B) → Fine b → demands_known (r.answer b) ds ≡ Outside → P b []) → ((b : B) → Fine b → demands_known (r.answer b) ds ≡ Inside → P b (b ∷ []))
+      → ((b : B) (q : Q) (xs ys : List B) → Fine b → Asks r ds b q → P (r.settle false b q) xs → P (r.settle true b q) ys → P b (xs ++ ys))
+      → (b : B) → Fine b → P b (boxes_by r ds b)
+  boxes_induct P dropped given cut b f = split_induct P dropped given cut (length (queries_of ds)) b f (open_count_length (r.answer b) (queries_of ds))
 
-  -- and is of the kind
-  pub split_fine : (d : ℕ) (b x : B) → Fine b → In x (split_by r ds d b) → Fine x
-  split_fine zero b x f i = elim (known_cases (demands_known (r.answer b) ds)) [
-    | inl k ↦ absurd (subst (In x) (split_outside 0 b k) i)
-    | inr (inl k) ↦ subst Fine (sym (In_one x b (subst (In x) (split_inside 0 b k) i))) f
-    | inr (inr k) ↦ let n = next_finds (r.answer b) ds k in absurd (subst (In x) (split_stuck b n.0 k n.1) i)
-  ]
-  split_fine (suc d) b x f i = elim (known_cases (demands_known (r.answer b) ds)) [
-    | inl k ↦ absurd (subst (In x) (split_outside (suc d) b k) i)
-    | inr (inl k) ↦ subst Fine (sym (In_one x b (subst (In x) (split_inside (suc d) b k) i))) f
-    | inr (inr k) ↦
-        let n = next_finds (r.answer b) ds k in
-        elim (In_append_cases (split_by r ds d (r.avoiding b n.0)) (split_by r ds d (r.requiring b n.0)) x (subst (In x) (split_more d b n.0 k n.1) i)) [
-          | inl j ↦ split_fine d (r.avoiding b n.0) x (law.avoiding_fine b n.0 f (apt n.0 n.2.1) n.2.0) j
-          | inr j ↦ split_fine d (r.requiring b n.0) x (law.requiring_fine b n.0 f (apt n.0 n.2.1) n.2.0) j
-        ]
-  ]
+  -- each box that is given has its demands met, and is of the kind
+  pub boxes_done : (b : B) → Fine b → Each (λ x. (demands_known (r.answer x) ds ≡ Inside) × Fine x) (boxes_by r ds b)
+  boxes_done =
+      boxes_induct (λ b. Each (λ x. (demands_known (r.answer x) ds ≡ Inside) × Fine x)) (λ b f k x i. absurd i)
+      (λ b f k x i. subst (λ y. (demands_known (r.answer y) ds ≡ Inside) × Fine y) (sym (In_one x b i)) (k, f))
+      (λ b q xs ys f a g h x i. elim (In_append_cases xs ys x i) [ inl j ↦ g x j | inr j ↦ h x j ])
 
-  pub split_same : (j d : ℕ) (b : B) → Fine b → open_count (r.answer b) (queries_of ds) ≤ d → split_by r ds (j + d) b ≡ split_by r ds d b
-  split_same zero d b f h = let e : 0 + d ≡ d = omega arith in ap (λ n. split_by r ds n b) e
-  split_same (suc j) d b f h = let e : suc j + d ≡ suc (j + d) = omega arith in ap (λ n. split_by r ds n b) e ∙ split_enough (j + d) b f (omega arith) ∙ split_same j d b f h
+  -- more steps than there are open queries change nothing
+  pub split_same : (d e : ℕ) (b : B) → Fine b → open_count (r.answer b) (queries_of ds) ≤ d → open_count (r.answer b) (queries_of ds) ≤ e → split_by r ds e b ≡ split_by r ds d b
+  split_same d e b f h k =
+      split_induct (λ (b : B) (xs : List B). (n : ℕ) → open_count (r.answer b) (queries_of ds) ≤ n → split_by r ds n b ≡ xs) (λ b f o n l. split_outside r ds n b o) (λ b f o n l. split_inside r ds n b o)
+      (λ b q xs ys f a g h n l. cut b q xs ys f a g h n l) d b f h e k
+    where
+      cut : (b : B) (q : Q) (xs ys : List B) → Fine b → Asks r ds b q → ((n : ℕ) → open_count (r.answer (r.settle false b q)) (queries_of ds) ≤ n → split_by r ds n (r.settle false b q) ≡ xs)
+          → ((n : ℕ) → open_count (r.answer (r.settle true b q)) (queries_of ds) ≤ n → split_by r ds n (r.settle true b q) ≡ ys) → (n : ℕ) → open_count (r.answer b) (queries_of ds) ≤ n → split_by r ds n b ≡ xs ++ ys
+      cut b q xs ys f a g h zero l = absurd (omega (arith, fewer false b q f a))
+      cut b q xs ys f a g h (suc n) l =
+          split_more r ds n b q a ∙ ap₂ (λ x y. x ++ y) (g n (omega (arith, fewer false b q f a))) (h n (omega (arith, fewer true b q f a)))
 
   pub never_stuck : (d : ℕ) (b : B) → Fine b → open_count (r.answer b) (queries_of ds) ≤ d → NeverStuck r ds d b
-  never_stuck zero b f h = λ k. let n = next_finds (r.answer b) ds k in absurd (omega (arith, fewer_avoiding b n.0 f n.2.1 n.2.0))
-  never_stuck (suc d) b f h = λ q k e.
-      let n = next_finds (r.answer b) ds k in
-      let same : n.0 ≡ q = cc (n.1, e) in
-      subst (λ p. NeverStuck r ds d (r.avoiding b p) × NeverStuck r ds d (r.requiring b p)) same (
-        never_stuck d (r.avoiding b n.0) (law.avoiding_fine b n.0 f (apt n.0 n.2.1) n.2.0) (omega (arith, fewer_avoiding b n.0 f n.2.1 n.2.0)),
-        never_stuck d (r.requiring b n.0) (law.requiring_fine b n.0 f (apt n.0 n.2.1) n.2.0) (omega (arith, fewer_requiring b n.0 f n.2.1 n.2.0)),
-      )
+  never_stuck zero b f h = λ k. let a = asks r ds b k in absurd (omega (arith, fewer false b a.0 f a.1))
+  never_stuck (suc d) b f h = λ k.
+      let a = asks r ds b k in
+      (a.0, a.1.next, λ w. never_stuck d (r.settle w b a.0) (law.fine w b a.0 f (apt a.0 a.1.there) a.1.unknown) (omega (arith, fewer w b a.0 f a.1)))
 
-  -- an open box is cut into the boxes of its two parts
-  pub boxes_more : (b : B) (q : Q) → Fine b → demands_known (r.answer b) ds ≡ Open → next_query (r.answer b) ds ≡ Some q → r.answer b q ≡ Open → In q (queries_of ds)
-      → boxes_by r ds b ≡ boxes_by r ds (r.avoiding b q) ++ boxes_by r ds (r.requiring b q)
-  boxes_more b q f e h o i =
+  -- a broken box gives none, one that is done itself, and an open one the boxes of its two parts
+  pub boxes_outside : (b : B) → demands_known (r.answer b) ds ≡ Outside → boxes_by r ds b ≡ []
+  boxes_outside = split_outside r ds (length (queries_of ds))
+
+  pub boxes_inside : (b : B) → demands_known (r.answer b) ds ≡ Inside → boxes_by r ds b ≡ b ∷ []
+  boxes_inside = split_inside r ds (length (queries_of ds))
+
+  pub boxes_more : (b : B) (q : Q) → Fine b → Asks r ds b q → boxes_by r ds b ≡ boxes_by r ds (r.settle false b q) ++ boxes_by r ds (r.settle true b q)
+  boxes_more b q f a =
       let n : ℕ = length (queries_of ds) in
+      let some = fewer false b q f a in
       let l = open_count_length (r.answer b) (queries_of ds) in
-      let a = fewer_avoiding b q f i o in
-      let c = fewer_requiring b q f i o in
       let m : suc (n - 1) ≡ n = omega arith in
-      let m1 : 1 + (n - 1) ≡ n = omega arith in
-      let one : (x : B) → Fine x → open_count (r.answer x) (queries_of ds) ≤ n - 1 → split_by r ds (n - 1) x ≡ split_by r ds n x =
-      λ x g k. sym (split_same 1 (n - 1) x g k) ∙ ap (λ j. split_by r ds j x) m1 in
-      ap (λ j. split_by r ds j b) (sym m)
-      ∙ split_more (n - 1) b q e h
-      ∙ ap₂ (λ x y. x ++ y) (one (r.avoiding b q) (law.avoiding_fine b q f (apt q i) o) (omega arith)) (one (r.requiring b q) (law.requiring_fine b q f (apt q i) o) (omega arith))
+      let part : (w : Bool) → split_by r ds (n - 1) (r.settle w b q) ≡ split_by r ds n (r.settle w b q) =
+      λ w. split_same n (n - 1) (r.settle w b q) (law.fine w b q f (apt q a.there) a.unknown) (omega (arith, fewer w b q f a)) (omega (arith, fewer w b q f a)) in
+      ap (λ j. split_by r ds j b) (sym m) ∙ split_more r ds (n - 1) b q a ∙ ap₂ (λ x y. x ++ y) (part false) (part true)
 
   module _ (Lies : B → Type 0) (H : Q → Type 0) (meant : Meant r Fine Apt Lies H) where
     state_says : (b : B) → Fine b → Lies b → Says (demands_known (r.answer b)) (Each (Met H)) ds
     state_says b f l = demands_say (r.answer b) H ds (λ q i. meant.says b q f (apt q i) l)
 
-    pub split_sound : (d : ℕ) (b x : B) → Fine b → In x (split_by r ds d b) → Lies x → Lies b × Each (Met H) ds
-    split_sound zero b x f i l = elim (known_cases (demands_known (r.answer b) ds)) [
-      | inl k ↦ absurd (subst (In x) (split_outside 0 b k) i)
-      | inr (inl k) ↦ let m = subst Lies (In_one x b (subst (In x) (split_inside 0 b k) i)) l in (m, (state_says b f m).inside k)
-      | inr (inr k) ↦ let n = next_finds (r.answer b) ds k in absurd (subst (In x) (split_stuck b n.0 k n.1) i)
-    ]
-    split_sound (suc d) b x f i l = elim (known_cases (demands_known (r.answer b) ds)) [
-      | inl k ↦ absurd (subst (In x) (split_outside (suc d) b k) i)
-      | inr (inl k) ↦ let m = subst Lies (In_one x b (subst (In x) (split_inside (suc d) b k) i)) l in (m, (state_says b f m).inside k)
-      | inr (inr k) ↦
-          let n = next_finds (r.answer b) ds k in
-          elim (In_append_cases (split_by r ds d (r.avoiding b n.0)) (split_by r ds d (r.requiring b n.0)) x (subst (In x) (split_more d b n.0 k n.1) i)) [
-            | inl j ↦ let m = split_sound d (r.avoiding b n.0) x (law.avoiding_fine b n.0 f (apt n.0 n.2.1) n.2.0) j l in (((meant.avoiding_lies b n.0 f (apt n.0 n.2.1) n.2.0).0 m.0).0, m.1)
-            | inr j ↦ let m = split_sound d (r.requiring b n.0) x (law.requiring_fine b n.0 f (apt n.0 n.2.1) n.2.0) j l in (((meant.requiring_lies b n.0 f (apt n.0 n.2.1) n.2.0).0 m.0).0, m.1)
-          ]
+    -- what lies in a box that is given lies in the whole, and meets the demands
+    abbrev Sound : B → List B → Type 0
+    Sound b xs = (x : B) → In x xs → Lies x → Lies b × Each (Met H) ds
+
+    sound_cut : (b : B) (q : Q) (xs ys : List B) → Fine b → Asks r ds b q → Sound (r.settle false b q) xs → Sound (r.settle true b q) ys → Sound b (xs ++ ys)
+    sound_cut b q xs ys f a g h x i l = elim (In_append_cases xs ys x i) [
+      | inl j ↦ let m = g x j l in (((meant.lies false b q f (apt q a.there) a.unknown).0 m.0).0, m.1)
+      | inr j ↦ let m = h x j l in (((meant.lies true b q f (apt q a.there) a.unknown).0 m.0).0, m.1)
     ]
 
-    pub split_complete : (d : ℕ) (b : B) → Fine b → open_count (r.answer b) (queries_of ds) ≤ d → Lies b → Each (Met H) ds → SomeIn Lies (split_by r ds d b)
-    split_complete zero b f h l e = elim (known_cases (demands_known (r.answer b) ds)) [
-      | inl k ↦ absurd ((state_says b f l).outside k e)
-      | inr (inl k) ↦ (b, subst (In b) (sym (split_inside 0 b k)) (inl refl), l)
-      | inr (inr k) ↦ let n = next_finds (r.answer b) ds k in absurd (omega (arith, fewer_avoiding b n.0 f n.2.1 n.2.0))
-    ]
-    split_complete (suc d) b f h l e = elim (known_cases (demands_known (r.answer b) ds)) [
-      | inl k ↦ absurd ((state_says b f l).outside k e)
-      | inr (inl k) ↦ (b, subst (In b) (sym (split_inside (suc d) b k)) (inl refl), l)
-      | inr (inr k) ↦
-          let n = next_finds (r.answer b) ds k in
-          let a = apt n.0 n.2.1 in
-          elim (meant.decided n.0 a) [
-            | inl y ↦
-                let m = split_complete d (r.requiring b n.0) (law.requiring_fine b n.0 f a n.2.0) (omega (arith, fewer_requiring b n.0 f n.2.1 n.2.0)) ((meant.requiring_lies b n.0 f a n.2.0).1 (l, y)) e in
-                (m.0, subst (In m.0) (sym (split_more d b n.0 k n.1)) (append_right (split_by r ds d (r.avoiding b n.0)) (split_by r ds d (r.requiring b n.0)) m.0 m.1), m.2)
-            | inr y ↦
-                let m = split_complete d (r.avoiding b n.0) (law.avoiding_fine b n.0 f a n.2.0) (omega (arith, fewer_avoiding b n.0 f n.2.1 n.2.0)) ((meant.avoiding_lies b n.0 f a n.2.0).1 (l, y)) e in
-                (m.0, subst (In m.0) (sym (split_more d b n.0 k n.1)) (append_left (split_by r ds d (r.avoiding b n.0)) (split_by r ds d (r.requiring b n.0)) m.0 m.1), m.2)
-          ]
-    ]
+    -- and it lies in no two
+    boxes_sound : (b : B) → Fine b → Sound b (boxes_by r ds b) × Apart Lies (boxes_by r ds b)
+    boxes_sound =
+        boxes_induct (λ b xs. Sound b xs × Apart Lies xs) (λ b f k. (λ x i l. absurd i, tt))
+        (λ b f k. (λ x i l. let m = subst Lies (In_one x b i) l in (m, (state_says b f m).inside k), (λ y i. absurd i, tt)))
+        (λ b q xs ys f a g h. (
+          sound_cut b q xs ys f a g.0 h.0,
+          Apart_append Lies xs ys g.1 h.1
+              (λ x y i j l m. ((meant.lies false b q f (apt q a.there) a.unknown).0 (g.0 x i l).0).1 ((meant.lies true b q f (apt q a.there) a.unknown).0 (h.0 y j m).0).1),
+        ))
 
-    pub split_apart : (d : ℕ) (b : B) → Fine b → Apart Lies (split_by r ds d b)
-    split_apart zero b f = elim (known_cases (demands_known (r.answer b) ds)) [
-      | inl k ↦ subst (Apart Lies) (sym (split_outside 0 b k)) tt
-      | inr (inl k) ↦ subst (Apart Lies) (sym (split_inside 0 b k)) (λ y i. absurd i, tt)
-      | inr (inr k) ↦ let n = next_finds (r.answer b) ds k in subst (Apart Lies) (sym (split_stuck b n.0 k n.1)) tt
-    ]
-    split_apart (suc d) b f = elim (known_cases (demands_known (r.answer b) ds)) [
-      | inl k ↦ subst (Apart Lies) (sym (split_outside (suc d) b k)) tt
-      | inr (inl k) ↦ subst (Apart Lies) (sym (split_inside (suc d) b k)) (λ y i. absurd i, tt)
-      | inr (inr k) ↦
-          let n = next_finds (r.answer b) ds k in
-          let a = apt n.0 n.2.1 in
-          let fa = law.avoiding_fine b n.0 f a n.2.0 in
-          let fr = law.requiring_fine b n.0 f a n.2.0 in
-          subst (Apart Lies) (sym (split_more d b n.0 k n.1))
-          (Apart_append Lies (split_by r ds d (r.avoiding b n.0)) (split_by r ds d (r.requiring b n.0)) (split_apart d (r.avoiding b n.0) fa) (split_apart d (r.requiring b n.0) fr)
-          (λ x y i j l m. ((meant.avoiding_lies b n.0 f a n.2.0).0 (split_sound d (r.avoiding b n.0) x fa i l).0).1 ((meant.requiring_lies b n.0 f a n.2.0).0 (split_sound d (r.requiring b n.0) y fr j m).0).1))
-    ]
+    -- what lies in the whole and meets the demands lies in one of them
+    boxes_complete : (b : B) → Fine b → Lies b → Each (Met H) ds → SomeIn Lies (boxes_by r ds b)
+    boxes_complete b f l e = boxes_induct (λ b xs. Lies b → SomeIn Lies xs) (λ b f k l. absurd ((state_says b f l).outside k e)) (λ b f k l. (b, inl refl, l)) cut b f l
+      where
+        cut : (b : B) (q : Q) (xs ys : List B) → Fine b → Asks r ds b q → (Lies (r.settle false b q) → SomeIn Lies xs) → (Lies (r.settle true b q) → SomeIn Lies ys) → Lies b → SomeIn Lies (xs ++ ys)
+        cut b q xs ys f a g h l = elim (meant.decided q (apt q a.there)) [
+          | inl y ↦ let m = h ((meant.lies true b q f (apt q a.there) a.unknown).1 (l, y)) in (m.0, append_right xs ys m.0 m.1, m.2)
+          | inr y ↦ let m = g ((meant.lies false b q f (apt q a.there) a.unknown).1 (l, y)) in (m.0, append_left xs ys m.0 m.1, m.2)
+        ]
+
+    pub boxes_apart : (b : B) → Fine b → Apart Lies (boxes_by r ds b)
+    boxes_apart b f = (boxes_sound b f).1
 
     pub boxes_cover : (b : B) → Fine b → Lies b → Each (Met H) ds ↔ SomeIn Lies (boxes_by r ds b)
-    boxes_cover b f l = (
-      split_complete (length (queries_of ds)) b f (open_count_length (r.answer b) (queries_of ds)) l,
-      λ s. (split_sound (length (queries_of ds)) b s.0 f s.1 s.2).1,
-    )
+    boxes_cover b f l = (boxes_complete b f l, λ s. ((boxes_sound b f).0 s.0 s.1 s.2).1)

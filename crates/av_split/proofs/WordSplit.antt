@@ -1,5 +1,5 @@
 -- The split at words.
-use Rattle.std.proofs.Common.{◌≡◌, ℕ, zero, suc, ◌+◌, ◌-◌, ◌<◌, ◌≤◌, ◌⊎◌, inl, inr, ◌↔◌, List, [], ◌∷◌, map, length, get_or, set, replicate, Bool, true, false, refl, sym, ap, ◌∙◌, subst, arith}
+use Rattle.std.proofs.Common.{◌≡◌, ℕ, zero, suc, ◌<◌, ◌≤◌, ◌⊎◌, inl, inr, ◌↔◌, List, [], ◌∷◌, map, length, get_or, set, replicate, Bool, true, false, refl, sym, ap, ◌∙◌, subst, arith}
 use Rattle.std.specs.List.{flat_map}
 use Rattle.std.proofs.lemmas.Bool.{cases_eq}
 use Rattle.std.proofs.lemmas.List.{get_or-set_same, get_or-set_other, length-set, get_or-replicate, length-replicate}
@@ -20,45 +20,47 @@ use Rattle.av_sys.specs.declared.names.Constraint.{Constraint}
 use Rattle.av_sys.specs.Names.{Meets}
 use Rattle.av_name.specs.declared.constraints.Known.{Known}
 use Rattle.av_name.specs.declared.constraints.Known.TheVariants.{In as Inside, Out as Outside, Open}
-use Rattle.av_name.specs.Constraints.{free, answer, add_avoid, add_require, once_avoided, once_required}
+use Rattle.av_name.specs.Constraints.{free, answer}
 use Rattle.av_name.proofs.Answered.{inside_says, outside_says, outside_is, free_meets}
 use Rattle.av_name.proofs.Growth.{IsFit, avoid_fit, require_fit, answer_avoid, answer_require, meets_avoid, meets_require, clean_avoid, clean_require}
-use Rattle.av_split.specs.Split.{Demand, queries_of, split_by, all_of, some_of, demand_known}
-use Rattle.av_split.specs.Boxes.{Query, Box, child_of, word_rules, ask, queries, demand, demands, boxes}
+use Rattle.av_split.specs.Split.{Demand, queries_of, all_of, some_of, demand_known}
+use Rattle.av_split.specs.Boxes.{Query, Box, child_of, added, word_rules, ask, queries, demand, demands, boxes}
 use Rattle.av_split.specs.Laws.{IsTidy, Splits, SplitLaw}
-use Rattle.av_split.proofs.GenericSplit.{Met, Lawful, Meant, Apart_at, boxes_cover, split_apart, split_same, split_fine, split_done, never_stuck, open_count_length, each_inside, each_outside, one_outside, unflipped}
+use Rattle.av_split.specs.Marks.{once}
+use Rattle.av_split.proofs.GenericSplit.{Met, MetIf, Lawful, Meant, Apart_at, boxes_cover, boxes_apart, boxes_done, split_same, never_stuck, open_count_length, each_inside, each_outside, one_outside, unflipped}
 
--- a query that was open is settled once its word is avoided
-avoid_settles : (c : Constraint) (p : List ℕ) → IsFit c → IsWord p → answer c p ≡ Open → answer (add_avoid c p) p ≡ Open → ⊥
-avoid_settles c p f g o e =
-    let s : answer (add_avoid c p) p ≡ once_avoided true Open = answer_avoid c p p f.avoid g ∙ ap (λ b. once_avoided b (answer c p)) (contains_to p p (contains_same p)) ∙ ap (once_avoided true) o in
-    out_open (sym s ∙ e)
-  where
-    out_open : Outside ≡ Open → ⊥
-    out_open q = cc
+-- `v` stands for `w`: where words are required it contains it, where they are avoided it is within
+abbrev pub stands : Bool → List ℕ → List ℕ → Bool
+stands true w v = contains v w
+stands false w v = contains w v
 
--- and once it is required
-require_settles : (c : Constraint) (p : List ℕ) → IsFit c → IsWord p → answer c p ≡ Open → answer (add_require c p) p ≡ Open → ⊥
-require_settles c p f g o e =
-    let s : answer (add_require c p) p ≡ once_required true Open = answer_require c p p f.require g o ∙ ap (λ b. once_required b (answer c p)) (contains_to p p (contains_same p)) ∙ ap (once_required true) o in
-    in_open (sym s ∙ e)
-  where
-    in_open : Inside ≡ Open → ⊥
-    in_open q = cc
+pub stands_itself : (r : Bool) (w : List ℕ) → stands r w w ≡ true
+stands_itself true w = contains_to w w (contains_same w)
+stands_itself false w = contains_to w w (contains_same w)
 
--- what is open once a word is avoided was open before
-avoided_open : (b : Bool) (k : Known) → once_avoided b k ≡ Open → k ≡ Open
-avoided_open true Open e = refl
-avoided_open true Inside e = absurd (cc)
-avoided_open true Outside e = absurd (cc)
-avoided_open false k e = e
+-- what is known once a word is required, or avoided
+pub added_answer : (r : Bool) (c : Constraint) (p w : List ℕ) → IsFit c → IsWord p → answer c p ≡ Open → answer (added r c p) w ≡ once r (stands r w p) (answer c w)
+added_answer true c p w f g o = answer_require c p w f.require g o
+added_answer false c p w f g o = answer_avoid c p w f.avoid g
 
--- and once it is required
-required_open : (b : Bool) (k : Known) → once_required b k ≡ Open → k ≡ Open
-required_open true Open e = refl
-required_open true Inside e = absurd (cc)
-required_open true Outside e = absurd (cc)
-required_open false k e = e
+pub added_fit : (r : Bool) (c : Constraint) (p : List ℕ) → IsFit c → IsWord p → answer c p ≡ Open → IsFit (added r c p)
+added_fit true c p f g o = require_fit c p f g o
+added_fit false c p f g o = avoid_fit c p f g
+
+pub added_tidy : (r : Bool) (c : Constraint) (p : List ℕ) → answer c p ≡ Open → IsTidy c → IsTidy (added r c p)
+added_tidy true c p o t = record { minimal = t.minimal; maximal = maximal_again (p ∷ c.require); clean = clean_require c p o t.clean }
+added_tidy false c p o t = record { minimal = minimal_again (p ∷ c.avoid); maximal = t.maximal; clean = clean_avoid c p o t.clean }
+
+-- what is open then was open before, and was not told of
+pub once_open : (r b : Bool) (k : Known) → once r b k ≡ Open → (k ≡ Open) × (b ≡ false)
+once_open true true Open e = absurd (cc)
+once_open true true Inside e = absurd (cc)
+once_open true true Outside e = absurd (cc)
+once_open true false k e = (e, refl)
+once_open false true Open e = absurd (cc)
+once_open false true Inside e = absurd (cc)
+once_open false true Outside e = absurd (cc)
+once_open false false k e = (e, refl)
 
 -- boxes with `k` children
 pub record Fine (k : ℕ) (b : Box) : Type 0 where
@@ -93,52 +95,29 @@ changed_fine k b i c f h g t = record {
   ];
 }
 
--- avoiding a word keeps a constraint tidy
-avoid_tidy : (c : Constraint) (p : List ℕ) → answer c p ≡ Open → IsTidy c → IsTidy (add_avoid c p)
-avoid_tidy c p o t = record { minimal = minimal_again (p ∷ c.avoid); maximal = t.maximal; clean = clean_avoid c p o t.clean }
-
--- and so does requiring it
-require_tidy : (c : Constraint) (p : List ℕ) → answer c p ≡ Open → IsTidy c → IsTidy (add_require c p)
-require_tidy c p o t = record { minimal = t.minimal; maximal = maximal_again (p ∷ c.require); clean = clean_require c p o t.clean }
-
--- a query that is open in the changed box was open before
-still_open : (b : Box) (q p : Query) (k : ℕ) (c : Constraint) → Fine k b → q.child < k → (answer c p.word ≡ Open → answer (child_of b q.child) p.word ≡ Open)
-    → answer (child_of (set b q.child c) p.child) p.word ≡ Open → answer (child_of b p.child) p.word ≡ Open
-still_open b q p k c f a g e = elim (cases_eq p.child q.child) [
-  | inl h ↦ subst (λ j. answer (child_of b j) p.word ≡ Open) (sym h) (g (subst (λ d. answer d p.word ≡ Open) (ap (child_of (set b q.child c)) h ∙ same_child b q.child c k f a) e))
-  | inr n ↦ subst (λ d. answer d p.word ≡ Open) (other_child b q.child p.child c n) e
-]
-
--- the box once a query is settled is fine
-pub avoiding_fine : (k : ℕ) (b : Box) (q : Query) → Fine k b → Apt k q → word_rules.answer b q ≡ Open → Fine k (word_rules.avoiding b q)
-avoiding_fine k b q f a o =
-    changed_fine k b q.child (add_avoid (child_of b q.child) q.word) f a.child (avoid_fit (child_of b q.child) q.word (f.fit q.child a.child) a.word)
-    (avoid_tidy (child_of b q.child) q.word o (f.tidy q.child a.child))
-
--- the same where it is required
-pub requiring_fine : (k : ℕ) (b : Box) (q : Query) → Fine k b → Apt k q → word_rules.answer b q ≡ Open → Fine k (word_rules.requiring b q)
-requiring_fine k b q f a o =
-    changed_fine k b q.child (add_require (child_of b q.child) q.word) f a.child (require_fit (child_of b q.child) q.word (f.fit q.child a.child) a.word o)
-    (require_tidy (child_of b q.child) q.word o (f.tidy q.child a.child))
-
 -- the rules at words are lawful
 pub word_law : (k : ℕ) → Lawful word_rules (Fine k) (Apt k)
 word_law k = record {
-  avoiding_fine = avoiding_fine k;
-  requiring_fine = requiring_fine k;
-  avoiding_settles = λ b q f a o e.
-      avoid_settles (child_of b q.child) q.word (f.fit q.child a.child) a.word o
-      (subst (λ d. answer d q.word ≡ Open) (same_child b q.child (add_avoid (child_of b q.child) q.word) k f a.child) e);
-  requiring_settles = λ b q f a o e.
-      require_settles (child_of b q.child) q.word (f.fit q.child a.child) a.word o
-      (subst (λ d. answer d q.word ≡ Open) (same_child b q.child (add_require (child_of b q.child) q.word) k f a.child) e);
-  avoiding_keeps = λ b q p f a x o e.
-      still_open b q p k (add_avoid (child_of b q.child) q.word) f a.child
-      (λ h. avoided_open (contains p.word q.word) (answer (child_of b q.child) p.word) (sym (answer_avoid (child_of b q.child) q.word p.word (f.fit q.child a.child).avoid a.word) ∙ h)) e;
-  requiring_keeps = λ b q p f a x o e.
-      still_open b q p k (add_require (child_of b q.child) q.word) f a.child
-      (λ h. required_open (contains q.word p.word) (answer (child_of b q.child) p.word) (sym (answer_require (child_of b q.child) q.word p.word (f.fit q.child a.child).require a.word o) ∙ h)) e;
+  fine = λ r b q f a o.
+      changed_fine k b q.child (added r (child_of b q.child) q.word) f a.child (added_fit r (child_of b q.child) q.word (f.fit q.child a.child) a.word o)
+      (added_tidy r (child_of b q.child) q.word o (f.tidy q.child a.child));
+  settles = λ r b q f a o e.
+      let h = once_open r (stands r q.word q.word) (answer (child_of b q.child) q.word)
+      (sym (added_answer r (child_of b q.child) q.word q.word (f.fit q.child a.child) a.word o)
+      ∙ subst (λ d. answer d q.word ≡ Open) (same_child b q.child (added r (child_of b q.child) q.word) k f a.child) e) in
+      true_false (sym (stands_itself r q.word) ∙ h.1);
+  keeps = λ r b q p f a x o e. elim (cases_eq p.child q.child) [
+    | inl h ↦
+        subst (λ j. answer (child_of b j) p.word ≡ Open) (sym h)
+        (once_open r (stands r p.word q.word) (answer (child_of b q.child) p.word)
+        (sym (added_answer r (child_of b q.child) q.word p.word (f.fit q.child a.child) a.word o)
+        ∙ subst (λ d. answer d p.word ≡ Open) (ap (child_of (word_rules.settle r b q)) h ∙ same_child b q.child (added r (child_of b q.child) q.word) k f a.child) e)).0
+    | inr n ↦ subst (λ d. answer d p.word ≡ Open) (other_child b q.child p.child (added r (child_of b q.child) q.word) n) e
+  ];
 }
+  where
+    true_false : true ≡ false → ⊥
+    true_false e = cc
 
 -- one list of blocks lies in a box of `k` children
 abbrev pub Lies : ℕ → List (List ℕ) → Box → Type 0
@@ -168,6 +147,11 @@ changed_lies k αs b i c X f h g = (
   ],
 )
 
+-- what lies in the region of a constraint with one more word
+added_meets : (r : Bool) (σ : List ℕ) (c : Constraint) (p : List ℕ) → IsFit c → IsWord p → Meets (added r c p).avoid (added r c p).require σ ↔ (Meets c.avoid c.require σ × MetIf r (Contains σ p))
+added_meets true σ c p f g = meets_require σ c p f.require g
+added_meets false σ c p f g = meets_avoid σ c p f.avoid g
+
 -- what the answers and the changed boxes mean
 pub word_meant : (k : ℕ) (αs : List (List ℕ)) → ((i : ℕ) → i < k → 1 ≤ length (block αs i)) → Meant word_rules (Fine k) (Apt k) (Lies k αs) (Holds αs)
 word_meant k αs filled = record {
@@ -175,12 +159,7 @@ word_meant k αs filled = record {
     inside = inside_says (child_of b q.child) q.word (block αs q.child) (filled q.child a.child) (l q.child a.child);
     outside = outside_says (child_of b q.child) q.word (block αs q.child) (l q.child a.child);
   };
-  avoiding_lies = λ b q f a o.
-      changed_lies k αs b q.child (add_avoid (child_of b q.child) q.word) (Holds αs q → ⊥) f a.child
-      (meets_avoid (block αs q.child) (child_of b q.child) q.word (f.fit q.child a.child).avoid a.word);
-  requiring_lies = λ b q f a o.
-      changed_lies k αs b q.child (add_require (child_of b q.child) q.word) (Holds αs q) f a.child
-      (meets_require (block αs q.child) (child_of b q.child) q.word (f.fit q.child a.child).require a.word);
+  lies = λ r b q f a o. changed_lies k αs b q.child (added r (child_of b q.child) q.word) (MetIf r (Holds αs q)) f a.child (added_meets r (block αs q.child) (child_of b q.child) q.word (f.fit q.child a.child) a.word);
   decided = λ q a. contains_decided (block αs q.child) q.word;
 }
 
@@ -280,11 +259,11 @@ free_lies : (k : ℕ) (αs : List (List ℕ)) → Lies k αs (replicate k free)
 free_lies k αs i h = subst (λ (d : Constraint). Meets d.avoid d.require (block αs i)) (sym (get_or-replicate k i free free h)) (free_meets (block αs i))
 
 -- the free constraint is fit
-free_fit : IsFit free
+pub free_fit : IsFit free
 free_fit = record { avoid = λ w i. absurd i; require = λ w i. absurd i; long = λ w i. absurd i }
 
 -- and tidy
-free_tidy : IsTidy free
+pub free_tidy : IsTidy free
 free_tidy = record { minimal = refl; maximal = refl; clean = λ r a i j k. absurd i }
 
 -- the first box is fine
@@ -297,9 +276,7 @@ start_fine k = record {
 
 -- each box is fine
 pub box_fine : (π : List ℕ) (A R : List (List ℕ)) (x : Box) → Each IsWord A → Each IsWord R → In x (boxes π A R) → Fine (length π) x
-box_fine π A R x ga gr i =
-    split_fine word_rules (Fine (length π)) (Apt (length π)) (word_law (length π)) (demands π A R) (demands_apt π A R ga gr) (length (queries_of (demands π A R)))
-    (replicate (length π) free) x (start_fine (length π)) i
+box_fine π A R x ga gr i = (boxes_done word_rules (Fine (length π)) (Apt (length π)) (word_law (length π)) (demands π A R) (demands_apt π A R ga gr) (replicate (length π) free) (start_fine (length π)) x i).1
 
 -- the map that sends all places to one child
 constant : (π γ : List ℕ) (i : ℕ) → i < length π → IsEmbedding π γ (replicate (length γ) (suc i))
@@ -331,7 +308,7 @@ child_avoids π A R γ x i ga gr inA hx hi =
     let ds : List (Demand Query) = demands π A R in
     let start : Box = replicate (length π) free in
     let f : Query → Known = word_rules.answer x in
-    let done = split_done word_rules (Fine k) (Apt k) (word_law k) ds (demands_apt π A R ga gr) (length (queries_of ds)) start x hx in
+    let done = (boxes_done word_rules (Fine k) (Apt k) (word_law k) ds (demands_apt π A R ga gr) start (start_fine k) x hx).0 in
     let d = each_inside (demand_known f) ds done (demand π false γ) (append_left (map (demand π false) A) (map (demand π true) R) (demand π false γ) (map_In (demand π false) A γ inA)) in
     let out = unflipped (some_of (all_of f) (map (queries π γ) (embeddings π γ))) d in
     let e : List ℕ = replicate (length γ) (suc i) in
@@ -361,14 +338,14 @@ split_is π A R w ga gr = record {
         λ s. met.0 (cover.1 (get_or (boxes π A R) s.0 [], In_at (boxes π A R) s.0 [] s.1, s.2)),
       );
   apart = λ αs b i j h l x y.
-      Apart_at (Lies k αs) (boxes π A R) i j [] (split_apart word_rules (Fine k) (Apt k) (word_law k) ds apt (Lies k αs) (Holds αs) (word_meant k αs b.filled) (length (queries_of ds)) start fine) h l x y;
+      Apart_at (Lies k αs) (boxes π A R) i j [] (boxes_apart word_rules (Fine k) (Apt k) (word_law k) ds apt (Lies k αs) (Holds αs) (word_meant k αs b.filled) start fine) h l x y;
   sized = λ b i. (box_fine π A R b ga gr i).count;
   tidy = λ b i. (box_fine π A R b ga gr i).tidy;
   kept = λ γ g b i j h. child_avoids π A R γ b j ga gr g i h;
   never_stuck = never_stuck word_rules (Fine k) (Apt k) (word_law k) ds apt (length (queries_of ds)) start fine (open_count_length (word_rules.answer start) (queries_of ds));
   enough = λ d h.
-      ap (λ n. split_by word_rules ds n start) (difference (length (queries_of ds)) d h)
-      ∙ split_same word_rules (Fine k) (Apt k) (word_law k) ds apt (d - length (queries_of ds)) (length (queries_of ds)) start fine (open_count_length (word_rules.answer start) (queries_of ds));
+      let l = open_count_length (word_rules.answer start) (queries_of ds) in
+      split_same word_rules (Fine k) (Apt k) (word_law k) ds apt (length (queries_of ds)) d start fine l (omega (arith, l));
 }
   where
     k : ℕ
@@ -385,9 +362,6 @@ split_is π A R w ga gr = record {
 
     apt : Each (Apt k) (queries_of ds)
     apt = demands_apt π A R ga gr
-
-    difference : (n d : ℕ) → n ≤ d → d ≡ (d - n) + n
-    difference n d h = omega arith
 
 -- the law of the split
 pub split_law : SplitLaw

@@ -4,15 +4,19 @@
 mod asked;
 mod boxes;
 mod cells;
-mod containments;
 #[cfg(test)]
 mod filter_tests;
 pub mod laws;
-mod pending;
+mod path;
+mod patterns;
+mod rows;
 mod splitting;
 mod steps;
+mod table;
 #[cfg(test)]
 mod tests;
+#[cfg(test)]
+mod walk_tests;
 
 pub use boxes::{BoxList, SplitBox};
-pub use splitting::split;
+pub use splitting::{Boxes, split};

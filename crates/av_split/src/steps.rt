@@ -1,11 +1,13 @@
 // What is known of the demands in a box, and what to ask next.
-ghost use Rattle.std.specs.Prelude.{◌≡◌, Some, Option};
+ghost use Rattle.std.specs.Prelude.{◌≡◌, ◌<◌, ◌≤◌, ◌+◌, Some, Option, true, false, length, take, drop};
+ghost use Rattle.av_name.specs.declared.constraints.Known.{Known};
 ghost use Rattle.av_split.specs.Split.{all_of, some_of, demand_known, demands_known, first_open, next_query};
-ghost use Rattle.av_split.specs.Cells.{known_at, IsCellOf, AreCellsOf, HasCellsOf, HaveCellsOf, IsStep, or_cell, step_or, turned_step};
+ghost use Rattle.av_split.specs.Cells.{known_at, IsCellOf, AreCellsOf, HasCellsOf, HaveCellsOf, IsStep, first_cell, IsFirst, AreSafe, or_cell, step_or, turned_step};
 ghost use Rattle.av_split.specs.declared.cells.Cell.{Cell};
 
 use crate::cells::{Cell, CellDemand, CellDemands, Cells};
-use crate::pending::KnownRow;
+use crate::path::Path;
+use crate::rows::Row;
 use av_name::Known;
 
 // What is known of queries together.
@@ -20,11 +22,11 @@ pub enum Step {
 }
 
 // What is known of a cell.
-fn known_at(rows: &[KnownRow], cell: Cell) -> Known
+fn known_at(rows: &[Row], cell: Cell) -> Known
     requires { IsCellOf rows.now cell }
     ensures { result ≡ known_at rows.now cell }
 {
-    rows[cell.child].get(cell.pattern)
+    rows[cell.child].get(cell.pattern).known
 }
 
 // The first of two cells.
@@ -48,7 +50,7 @@ fn step_or(found: Option<Cell>, step: Step) -> Step
 }
 
 // An embedding holds where all its queries do.
-fn embedding_step(rows: &[KnownRow], cells: &Cells) -> Step
+fn embedding_step(rows: &[Row], cells: &Cells) -> Step
     requires { AreCellsOf rows.now cells.now }
     ensures { IsStep result (all_of (known_at rows.now) cells.now) (first_open (known_at rows.now) (λ cell. Some cell) cells.now) }
 {
@@ -64,7 +66,7 @@ fn embedding_step(rows: &[KnownRow], cells: &Cells) -> Step
 }
 
 // Whether some embedding of a demand holds.
-fn some_step(rows: &[KnownRow], demand: &CellDemand) -> Step
+fn some_step(rows: &[Row], demand: &CellDemand) -> Step
     requires { HasCellsOf rows.now demand.now }
     ensures { IsStep result (some_of (all_of (known_at rows.now)) demand.now.embeddings) (first_open (all_of (known_at rows.now)) (λ m. first_open (known_at rows.now) (λ cell. Some cell) m) demand.now.embeddings) }
 {
@@ -80,9 +82,9 @@ fn some_step(rows: &[KnownRow], demand: &CellDemand) -> Step
 }
 
 // A demand is done where some embedding is required and holds, or none is and none holds.
-fn demand_step(rows: &[KnownRow], demand: &CellDemand) -> Step
+fn demand_step(rows: &[Row], demand: &CellDemand) -> Step
     requires { HasCellsOf rows.now demand.now }
-    ensures { IsStep result (demand_known (known_at rows.now) demand.now) (first_open (all_of (known_at rows.now)) (λ m. first_open (known_at rows.now) (λ cell. Some cell) m) demand.now.embeddings) }
+    ensures { IsStep result (demand_known (known_at rows.now) demand.now) (first_cell rows.now demand.now) }
 {
     turned(demand.is_required(), some_step(rows, demand))
 }
@@ -101,18 +103,89 @@ fn turned(required: bool, step: Step) -> Step
     }
 }
 
-// A box is done where all demands are.
-pub fn next_step(rows: &[KnownRow], demands: &CellDemands) -> Step
-    requires { HaveCellsOf rows.now demands.now }
-    ensures { IsStep result (demands_known (known_at rows.now) demands.now) (next_query (known_at rows.now) demands.now) }
+// The step of the first demand that isn't done, from number `from` on, with its number; after the last one `Holds`.
+fn first_step(rows: &[Row], demands: &CellDemands, from: usize) -> (usize, Step)
+    requires cells { HaveCellsOf rows.now demands.now }
+    requires within { from ≤ length demands.now }
+    requires done { all_of (demand_known (known_at rows.now)) (take from demands.now) ≡ Known.In }
+    ensures within { result.0 ≤ length demands.now }
+    ensures done { all_of (demand_known (known_at rows.now)) (take result.0 demands.now) ≡ Known.In }
+    ensures step { IsFirst result.1 (demand_known (known_at rows.now)) (first_cell rows.now) (drop result.0 demands.now) }
 {
-    let mut found = None;
-    for demand in demands.as_slice() {
-        match demand_step(rows, demand) {
+    let demands = demands.as_slice();
+    for i in from..demands.len() {
+        match demand_step(rows, &demands[i]) {
             Step::Holds => {}
-            Step::Fails => return Step::Fails,
-            Step::Asks(cell) => found = or_cell(found, cell),
+            Step::Fails => return (i, Step::Fails),
+            Step::Asks(cell) => return (i, Step::Asks(cell)),
         }
     }
-    step_or(found, Step::Holds)
+    (demands.len(), Step::Holds)
+}
+
+// Whether a demand is broken.
+fn is_broken(rows: &[Row], demand: &CellDemand) -> bool
+    requires { HasCellsOf rows.now demand.now }
+    ensures broken { result ≡ true → demand_known (known_at rows.now) demand.now ≡ Known.Out }
+    ensures whole { result ≡ false → demand_known (known_at rows.now) demand.now ≡ Known.Out → ⊥ }
+{
+    match demand_step(rows, demand) {
+        Step::Holds => false,
+        Step::Fails => true,
+        Step::Asks(_) => false,
+    }
+}
+
+// Whether a demand to contain a word, or to avoid one, can't be broken.
+fn is_safe(last: Option<bool>, required: bool) -> bool
+    ensures { result ≡ true → last ≡ Some required }
+{
+    match last {
+        Some(kind) => kind == required,
+        None => false,
+    }
+}
+
+// Whether some demand after number `from` is broken.
+fn some_broken(rows: &[Row], demands: &CellDemands, from: usize, last: Option<bool>) -> bool
+    requires cells { HaveCellsOf rows.now demands.now }
+    requires within { from < length demands.now }
+    requires safe { AreSafe last (demand_known (known_at rows.now)) demands.now }
+    ensures broken { result ≡ true → all_of (demand_known (known_at rows.now)) (drop (from + 1) demands.now) ≡ Known.Out }
+    ensures whole { result ≡ false → all_of (demand_known (known_at rows.now)) (drop (from + 1) demands.now) ≡ Known.Out → ⊥ }
+{
+    let demands = demands.as_slice();
+    for i in from + 1..demands.len() {
+        let demand = &demands[i];
+        if !is_safe(last, demand.is_required()) && is_broken(rows, demand) {
+            return true;
+        }
+    }
+    false
+}
+
+// A box is done where all demands are. It is open where some demand is, and none is broken. The number of demands before the
+// first that isn't done comes first.
+pub fn next_step(path: &Path, demands: &CellDemands) -> (usize, Step)
+    requires cells { HaveCellsOf path.now.rows.items demands.now }
+    requires within { path.now.from ≤ length demands.now }
+    requires done { all_of (demand_known (known_at path.now.rows.items)) (take path.now.from demands.now) ≡ Known.In }
+    requires safe { AreSafe path.now.last (demand_known (known_at path.now.rows.items)) demands.now }
+    ensures within { result.0 ≤ length demands.now }
+    ensures done { all_of (demand_known (known_at path.now.rows.items)) (take result.0 demands.now) ≡ Known.In }
+    ensures step { IsStep result.1 (demands_known (known_at path.now.rows.items) demands.now) (next_query (known_at path.now.rows.items) demands.now) }
+{
+    let rows: &[Row] = &path.rows;
+    let (from, step) = first_step(rows, demands, path.from);
+    match step {
+        Step::Holds => (from, Step::Holds),
+        Step::Fails => (from, Step::Fails),
+        Step::Asks(cell) => {
+            if some_broken(rows, demands, from, path.last) {
+                (from, Step::Fails)
+            } else {
+                (from, Step::Asks(cell))
+            }
+        }
+    }
 }

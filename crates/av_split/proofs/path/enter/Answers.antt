@@ -1,0 +1,1 @@
+-- The next part of a path.

@@ -1,7 +1,0 @@
--- The patterns gone through have their new answers.
-use Rattle.std.proofs.Common.{◌≡◌, [], take, get_or}
-use Rattle.av_split.specs.Cells.{avoided_row}
-use Rattle.av_split.proofs.pending.avoiding_row.Given as goal
-
-abbrev pub invariant-loop-i : goal.invariant-loop-i
-invariant-loop-i l = l.next ≡ avoided_row (take l.i l.patterns) (get_or l.patterns l.p []) (take l.i l.row)

@@ -1,0 +1,131 @@
+-- The walk over the boxes: the path to the present one, and which boxes are left.
+use Rattle.std.specs.List.{flat_map}
+use Rattle.std.specs.Prelude.{◌≡◌, ℕ, ◌<◌, ◌≤◌, true, false, cond, List, [], ◌∷◌, ◌++◌, Bool, length, take, reverse, get_or, set, Option, Some, None, Result, Ok, Err}
+use Rattle.av_perm.specs.declared.words.Memory.{Memory}
+use Rattle.av_perm.specs.Members.{In}
+use Rattle.av_perm.specs.Relations.{IsWord}
+use Rattle.av_name.specs.Constraints.{answer}
+use Rattle.av_name.specs.declared.constraints.Known.TheVariants.{In as Inside, Open}
+use Rattle.av_split.specs.declared.cells.Cell.{Cell}
+use Rattle.av_split.specs.declared.rows.Mark.{Mark}
+use Rattle.av_split.specs.declared.path.Path.{Path}
+use Rattle.av_split.specs.declared.path.Turn.{Turn}
+use Rattle.av_split.specs.declared.steps.Step.{Step}
+use Rattle.av_split.specs.declared.steps.Step.TheVariants.{Holds, Fails, Asks}
+use Rattle.av_split.specs.Split.{Demand, demand_known, demands_known, next_query, all_of, boxes_by}
+use Rattle.av_split.specs.Boxes.{Query, Box, word_rules, demands}
+use Rattle.av_split.specs.Laws.{IsTidy}
+use Rattle.av_split.specs.Marks.{unmarked, IsSettled, constraint_of, box_of}
+use Rattle.av_split.specs.Cells.{AreDemandsOf, query_at, known_at, AreSafe}
+
+-- the marks of a child are what its constraint tells of the patterns
+pub record IsRow (ps : List (List ℕ)) (row : List Mark) : Type 0 where
+  pub size : length row ≡ length ps
+  pub avoid : (w : List ℕ) → In w (constraint_of ps row).avoid → IsWord w
+  pub require : (w : List ℕ) → In w (constraint_of ps row).require → IsWord w
+  pub long : (w : List ℕ) → In w (constraint_of ps row).require → 2 ≤ length w
+  pub tidy : IsTidy (constraint_of ps row)
+  pub known : (i : ℕ) → i < length ps → (get_or row i unmarked).known ≡ answer (constraint_of ps row) (get_or ps i [])
+
+-- a row for each of `k` children
+pub record AreRows (k : ℕ) (ps : List (List ℕ)) (rows : List (List Mark)) : Type 0 where
+  pub count : length rows ≡ k
+  pub each : (i : ℕ) → i < k → IsRow ps (get_or rows i [])
+
+-- the rows of a box before it was cut
+abbrev pub before : Turn → List (List Mark) → List (List Mark)
+before t rows = set rows t.cell.child t.row
+
+-- the first open cell of an open box of `k` children, in which so many demands are done
+pub record IsOpen (k : ℕ) (ps : List (List ℕ)) (asked : List (Demand Cell)) (rows : List (List Mark)) (n : ℕ) (cell : Cell) : Type 0 where
+  pub marks : AreRows k ps rows
+  pub known : demands_known (known_at rows) asked ≡ Open
+  pub next : next_query (known_at rows) asked ≡ Some cell
+  pub within : n ≤ length asked
+  pub done : all_of (demand_known (known_at rows)) (take n asked) ≡ Inside
+
+-- each cut of a path, from the last one on, was of an open box by its first open cell
+abbrev pub AreCuts : ℕ → List (List ℕ) → List (Demand Cell) → List Turn → List (List Mark) → Type 0
+AreCuts k ps asked [] rows = Unit {0}
+AreCuts k ps asked (t ∷ turns) rows = IsOpen k ps asked (before t rows) t.from t.cell × AreCuts k ps asked turns (before t rows)
+
+-- a path to a box of `k` children
+pub record IsPath (k : ℕ) (ps : List (List ℕ)) (asked : List (Demand Cell)) (p : Path) : Type 0 where
+  pub marks : AreRows k ps p.rows.items
+  pub within : p.from ≤ length asked
+  pub done : all_of (demand_known (known_at p.rows.items)) (take p.from asked) ≡ Inside
+  pub safe : AreSafe p.last (demand_known (known_at p.rows.items)) asked
+  pub cuts : AreCuts k ps asked (reverse p.turns.items) p.rows.items
+
+-- the parts that a path leaves for later, from its last cut on
+abbrev pub parts_left : List (List ℕ) → List Turn → List (List Mark) → List Box
+parts_left ps [] rows = []
+parts_left ps (t ∷ turns) rows = cond t.required [] (word_rules.settle true (box_of ps (before t rows)) (query_at ps t.cell) ∷ []) ++ parts_left ps turns (before t rows)
+
+-- the box that a path leads to, and the parts that it leaves for later
+abbrev pub parts_of : List (List ℕ) → Option Path → List Box
+parts_of ps None = []
+parts_of ps (Some p) = box_of ps p.rows.items ∷ parts_left ps (reverse p.turns.items) p.rows.items
+
+-- the boxes that they give
+abbrev pub left_of : List (Demand Query) → List (List ℕ) → Option Path → List Box
+left_of ds ps p = flat_map (boxes_by word_rules ds) (parts_of ps p)
+
+-- the path, unless none is left, is of a root and a name, whose demands have these cells
+pub record IsWalk (π : List ℕ) (A R ps : List (List ℕ)) (cells : List (Demand Cell)) (p : Option Path) : Type 0 where
+  pub avoid : (w : List ℕ) → In w A → IsWord w
+  pub require : (w : List ℕ) → In w R → IsWord w
+  pub asked : AreDemandsOf (length π) ps cells (demands π A R)
+  pub path : (q : Path) → p ≡ Some q → IsPath (length π) ps cells q
+
+-- a cell is one of the rows
+pub record CanEnter (ps : List (List ℕ)) (rows : List (List Mark)) (cell : Cell) : Type 0 where
+  pub child : cell.child < length rows
+  pub pattern : cell.pattern < length ps
+  pub size : length (get_or rows cell.child []) ≡ length ps
+
+-- the cells of cuts are of the rows
+abbrev pub AreTurns : List (List ℕ) → List Turn → List (List Mark) → Type 0
+AreTurns ps turns rows = (t : Turn) → In t turns → (t.cell.child < length rows) × (t.cell.pattern < length ps) × (length t.row ≡ length ps)
+
+-- a path once the box with these rows, after these cuts, is cut by a cell, of which the pattern is required then, or avoided
+pub record IsEntered (required : Bool) (ps : List (List ℕ)) (cell : Cell) (n : ℕ) (marks : List (List Mark)) (cuts : List Turn) (next : Path) : Type 0 where
+  pub row : List Mark
+  pub settled : IsSettled required ps cell.pattern (get_or marks cell.child []) row
+  pub rows : next.rows.items ≡ set marks cell.child row
+  pub from : next.from ≡ n
+  pub last : next.last ≡ Some required
+  pub turns : reverse next.turns.items ≡ record { cell = cell; row = get_or marks cell.child []; from = n; required = required } ∷ cuts
+
+-- one of two
+abbrev pub Either : Bool → Type 0 → Type 0 → Type 0
+Either true X Y = X
+Either false X Y = Y
+
+-- the way back along cuts, from the last one on, to the first that leaves a part for later, which is entered
+abbrev pub GoesBack : List (List ℕ) → List Turn → List (List Mark) → Option Path → Type 0
+GoesBack ps [] rows next = next ≡ None
+GoesBack ps (t ∷ turns) rows next = Either t.required (GoesBack ps turns (before t rows) next) ((p : Path) × (next ≡ Some p) × IsEntered true ps t.cell t.from (before t rows) turns p)
+
+-- a box is given, dropped or cut
+abbrev pub Advances : List (List ℕ) → Step → ℕ → Path → Option Box → Option Path → Type 0
+Advances ps Holds n p found next = (found ≡ Some (box_of ps p.rows.items)) × GoesBack ps (reverse p.turns.items) p.rows.items next
+Advances ps Fails n p found next = (found ≡ None) × GoesBack ps (reverse p.turns.items) p.rows.items next
+Advances ps (Asks cell) n p found next = (found ≡ None) × (q : Path) × (next ≡ Some q) × IsEntered false ps cell n p.rows.items (reverse p.turns.items) q
+
+-- a step can be taken
+abbrev pub CanStep : List (List ℕ) → Path → Step → Type 0
+CanStep ps p Holds = ((i : ℕ) → i < length p.rows.items → length (get_or p.rows.items i []) ≡ length ps) × AreTurns ps p.turns.items p.rows.items
+CanStep ps p Fails = ((i : ℕ) → i < length p.rows.items → length (get_or p.rows.items i []) ≡ length ps) × AreTurns ps p.turns.items p.rows.items
+CanStep ps p (Asks cell) = CanEnter ps p.rows.items cell
+
+-- the first of some boxes was taken, if there is one
+abbrev pub Takes : Option Box → List Box → List Box → Type 0
+Takes None before after = (before ≡ []) × (after ≡ [])
+Takes (Some b) before after = before ≡ b ∷ after
+
+-- the same, unless memory is wanting, which ends the walk
+abbrev pub Gives : Option (Result Box Memory) → List Box → List Box → Type 0
+Gives None before after = (before ≡ []) × (after ≡ [])
+Gives (Some (Ok b)) before after = before ≡ b ∷ after
+Gives (Some (Err e)) before after = after ≡ []
