@@ -1,6 +1,8 @@
 pub mod NameNumbers
 pub mod NameTests
 pub mod Numbers
+pub mod Pointwise
+pub mod RootedTerms
 pub mod NamesOver
 pub mod TermsStand
 pub mod Growing
@@ -10,14 +12,11 @@ pub mod ShortNames
 pub mod PartialSteps
 pub mod Adding
 pub mod ChildNumbers
-pub mod ListedTerms
 pub mod NameEquations
 pub mod DraftMeanings
 pub mod DraftsApart
-pub mod Subtrees
-pub mod TreeValues
-pub mod WordsReached
-pub mod NamedUpTo
-pub mod ExactSoFar
+pub mod TermLaws
+pub mod NameSystems
+pub mod ExactAlways
 pub mod Growth
 pub mod Worked

@@ -1,17 +1,53 @@
 -- The number of the next child.
-use Rattle.std.proofs.Common.{◌≡◌, ◌+◌, ◌==◌, refl, ap, ◌∙◌}
-use Rattle.av_build.specs.Drafts.{name_of}
-use Rattle.av_build.specs.Canonical.{with_name, number_of}
-use Rattle.av_build.specs.Adding.{child_sign}
-use Rattle.av_build.proofs.ChildNumbers.{numbered_next}
+use Rattle.std.proofs.Common.{◌≡◌, ℕ, List, [], ◌∷◌, length, refl, sym, ap, ◌∙◌, subst, arith}
+use Rattle.av_sys.specs.declared.names.Sign.{Sign}
+use Rattle.av_sys.specs.declared.names.Constraint.{Constraint}
+use Rattle.av_sys.specs.declared.names.Name.{Name}
+use Rattle.av_build.specs.Drafts.{name_of, child_names}
+use Rattle.av_build.proofs.RootedTerms.{later_names}
+use Rattle.av_build.proofs.ChildNumbers.{AreNumbered, numbered_next, all_numbered}
+use Rattle.av_build.proofs.Numbers.{one_more}
 use Rattle.av_build.proofs.children.children_of.Goals as goal
 
-pub loop-i-preserved : goal.loop-i-preserved
-loop-i-preserved c =
-    let name : c.in_ok-name.name ≡ name_of (child_sign c.args.first (c.loop-i.i == 0)) c.get.result.now =
-    c.in_ok-name.ensures ∙ ap (λ s. name_of s c.get.result.now) c.child_sign.ensures in
-    numbered_next c.args.first c.args.constraints.now c.loop-i.i (c.loop-i.i + 1) c.get.result.now c.args.names.now c.loop-i.names c.number.new.self c.loop-i.children c.push.new.self c.in_ok-number.field-0 refl
-    c.get.ensures c.loop-i.invariant
-    (c.in_ok-number.ensures.grows ∙ ap (with_name c.loop-i.names) name)
-    (c.in_ok-number.ensures.number ∙ ap (number_of c.loop-i.names) name)
-    c.in_ok-push.ensures.ok
+pub loop-constraint-init : goal.loop-constraint-init
+loop-constraint-init c =
+    let items = c.into_iter-constraint-iterator.ensures.into_iter_gives.0 ∙ c.into_items-constraint-items.ensures in
+    record {
+      numbered = record { done = []; whole = ap (child_names c.args.first) items; found = refl; numbers = c.empty-children.ensures };
+      few = let l = ap length items in omega arith;
+    }
+
+pub overflow_cast-branch : goal.overflow_cast-branch
+overflow_cast-branch c =
+    let more = one_more c.loop-constraint.names (name_of c.loop-constraint.sign c.in-Some.constraint) in
+    let rest = ap length (c.in-Some.ensures.steps).0 in
+    omega (arith, c.loop-constraint.invariant.few, more, rest, ap length c.in_ok-number.ensures.grows, c.in_ok-number.ensures.within, c.requires.few)
+
+-- the name of the next child is the first that is left
+first_left : (sign : Sign) (b : Constraint) (before after : List Constraint) (all old names : List Name) (children : List ℕ) → before ≡ b ∷ after → AreNumbered all (child_names sign before) old names children
+    → AreNumbered all (name_of sign b ∷ child_names Sign.C after) old names children
+first_left sign b before after all old names children e a =
+    subst (λ ns. AreNumbered all (name_of sign b ∷ ns) old names children) (later_names after) (subst (λ bs. AreNumbered all (child_names sign bs) old names children) e a)
+
+pub loop-constraint-preserved : goal.loop-constraint-preserved
+loop-constraint-preserved c =
+    let more = one_more c.loop-constraint.names (name_of c.loop-constraint.sign c.in-Some.constraint) in
+    let rest = ap length (c.in-Some.ensures.steps).0 in
+    record {
+      numbered =
+          numbered_next (child_names c.args.first c.args.constraints) _ c.args.names.now c.loop-constraint.names c.number.new.self (name_of c.loop-constraint.sign c.in-Some.constraint) c.loop-constraint.children c.push.new.self c.in_ok-number.field-0
+          (first_left c.loop-constraint.sign c.in-Some.constraint c.loop-constraint.constraint-iterator.rest.items c.next.new.self.rest.items (child_names c.args.first c.args.constraints) c.args.names.now c.loop-constraint.names c.loop-constraint.children (c.in-Some.ensures.steps).0 c.loop-constraint.invariant.numbered)
+          c.in_ok-number.ensures.grows c.in_ok-number.ensures.number c.in_ok-push.ensures.ok;
+      few = omega (arith, c.loop-constraint.invariant.few, more, rest, ap length c.in_ok-number.ensures.grows);
+    }
+
+-- a list without length is empty
+nothing_left : {A : Type 0} (xs : List A) (n : ℕ) → length xs ≡ n → n ≡ 0 → xs ≡ []
+nothing_left [] n e z = refl
+nothing_left (x ∷ xs) n e z = absurd (omega (arith, e, z))
+
+pub returns : goal.returns
+returns c =
+    let rest = nothing_left c.loop-constraint.constraint-iterator.rest.items c.loop-constraint.constraint-iterator.rest.len (sym (c.loop-constraint.constraint-iterator.rest.ok).0) (c.in-None.ensures.steps).0 in
+    let numbered = all_numbered (child_names c.args.first c.args.constraints) (child_names c.loop-constraint.sign c.loop-constraint.constraint-iterator.rest.items) c.args.names.now c.loop-constraint.names c.loop-constraint.children (ap (child_names c.loop-constraint.sign) rest) c.loop-constraint.invariant.numbered in
+    record { found = numbered.0; numbers = numbered.1 }

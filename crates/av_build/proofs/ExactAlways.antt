@@ -1,0 +1,60 @@
+-- The canonical system of a class with a gap is exact at every size: from the gap on the class has no simple words.
+use Rattle.std.proofs.Common.{ℕ, ◌+◌, inl, inr, List, length, refl, sym, subst, arith}
+use Rattle.std.proofs.lemmas.Bool.{cases_lt}
+use Rattle.av_perm.specs.Relations.{AreWords, InClass}
+use Rattle.av_perm.specs.Gap.{simples_below}
+use Rattle.av_perm.specs.Laws.{IsGap}
+use Rattle.av_perm.proofs.Gaps.{below_list}
+use Rattle.av_perm.proofs.Classes.{avoids_minimal}
+use Rattle.av_interval.proofs.TwoGaps.{final_gap}
+use Rattle.av_sys.specs.declared.terms.System.{System}
+use Rattle.av_sys.specs.Names.{Means}
+use Rattle.av_sys.specs.Trees.{size, value}
+use Rattle.av_sys.specs.Exact.{MeansOf, MeansAt, Exact, Named}
+use Rattle.av_build.specs.Canonical.{first_name}
+use Rattle.av_build.specs.Laws.{HoldsSimples, ExactLaw}
+use Rattle.av_build.proofs.NamesOver.{first_name_ok}
+use Rattle.av_build.proofs.Growing.{NameAt, canonical}
+use Rattle.av_build.proofs.NameSystems.{named_law}
+
+-- the simple words below a gap are all that the class has
+gap_holds : (basis : List (List ℕ)) (g m : ℕ) → IsGap basis g → HoldsSimples basis (simples_below basis g) m
+gap_holds basis g m gap = record {
+  simple = λ w i. (((below_list basis g).members w).0 i).simple;
+  once = (below_list basis g).once;
+  all = λ w p c l. elim (cases_lt (length w) g) [
+    | inl h ↦ ((below_list basis g).members w).1 (record { simple = p; member = c; short = h })
+    | inr h ↦ absurd ((final_gap basis g gap).none (length w) h w (record { simple = p; member = record { member = c; long = refl } }))
+  ];
+}
+
+module _ (basis : List (List ℕ)) (S : System) (words : AreWords basis) (first : NameAt S 0 (first_name basis)) where
+  -- what means the name of equation 0 is of the class
+  class_from : (w : List ℕ) → MeansAt S 0 w → InClass basis w
+  class_from w m =
+      let n : Means (first_name basis) w = subst (λ n. Means n w) first.2 (subst (λ o. MeansOf o w) first.1 m) in
+      record { word = n.word; avoids = (avoids_minimal basis w words).0 n.meets.avoids }
+
+  -- and the words of the class mean it
+  class_to : (w : List ℕ) → InClass basis w → MeansAt S 0 w
+  class_to w c =
+      let n : Means (first_name basis) w = record {
+        word = c.word;
+        meets = record { avoids = (avoids_minimal basis w words).1 c.avoids; contains = λ r i. absurd i };
+        signed = tt;
+      } in
+      subst (λ o. MeansOf o w) (sym first.1) (subst (λ n. Means n w) (sym first.2) n)
+
+  -- a system of the class whose equations generate the words of their names is exact
+  pub exact_from : Named S → Exact S basis
+  exact_from n = record {
+    sound = λ T v. let r = (n (size T)).sound 0 T v (omega arith) in record { member = class_from (value S 0 T) r.0; long = r.1 };
+    complete = λ w c. (n (length w)).complete 0 w (class_to w c) (omega arith);
+    once = λ T U v w same. (n (size T + size U)).once 0 T U v w (omega arith) (omega arith) same;
+  }
+
+-- the law of exactness
+pub exact_law : ExactLaw
+exact_law basis g limit S words gap c =
+    let n : Named S = λ m. named_law basis (simples_below basis g) limit m S words c (gap_holds basis g m gap) in
+    (exact_from basis S words (canonical basis (simples_below basis g) (first_name basis) limit S (first_name_ok basis words) c).first n, n)
