@@ -1,0 +1,12 @@
+pub mod Picks
+pub mod TreeWords
+pub mod Entries
+pub mod Cuts
+pub mod Options
+pub mod Meanings
+pub mod AvoidingBlocks
+pub mod FoundTops
+pub mod SomeTops
+pub mod Ranks
+pub mod BlockPlaces
+pub mod ClassRanks

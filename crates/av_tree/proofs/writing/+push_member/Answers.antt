@@ -1,0 +1,167 @@
+-- The blocks are words at places of smaller sizes, and all together the inflation.
+use Rattle.std.proofs.Common.{◌≡◌, ◌<◌, ◌+◌, ◌++◌, [], ◌∷◌, length, map, get_or, sym, ◌∙◌, ap, subst, arith, refl, Some, append-nil}
+use Rattle.av_perm.specs.Inflate.{inflate}
+use Rattle.av_decomp.proofs.FormedTrees.{lifted_more}
+use Rattle.av_sys.specs.declared.terms.System.{System}
+use Rattle.av_sys.specs.Terms.{term_at}
+use Rattle.av_tree.specs.declared.choosing.Pick.{Pick}
+use Rattle.av_sys.specs.TreeLists.{count_at, members_at}
+use Rattle.av_tree.specs.Picks.{picked}
+use Rattle.av_count.proofs.Filled.{child_is}
+use Rattle.av_count.proofs.NodeForms.{node_form}
+use Rattle.av_tree.proofs.Entries.{room_left, all_stand, chosen_here, within_here, one_known, point_entry, node_member, term_entry, fitting_at, fitting_less, lower_upto, lower_fits, lower_below, length_picked, picked_at}
+use Rattle.av_tree.proofs.TreeWords.{member_word}
+use Rattle.av_tree.proofs.writing.+push_member.Goals as goal
+
+abbrev none : Pick
+none = record { size = 0; rank = 0 }
+
+pub choose-in_front-requires-clause-known : goal.choose-in_front-requires-clause-known
+choose-in_front-requires-clause-known t c k lt =
+    let e = c.term.ensures ∙ ap Some c.in-Node.is in
+    subst (λ (S : System). get_or c.in-Node.children k 0 < length S.equations) (sym c.requires.stands)
+    ((node_form c.args.system.now c.args.eq c.choose_term-cut.result.at c.in-Node.root c.in-Node.children c.requires.formed e).known k lt)
+
+pub choose-in_front-requires-clause-ten : goal.choose-in_front-requires-clause-ten
+choose-in_front-requires-clause-ten t c =
+    (node_form c.args.system.now c.args.eq c.choose_term-cut.result.at c.in-Node.root c.in-Node.children c.requires.formed (c.term.ensures ∙ ap Some c.in-Node.is)).ten
+
+pub choose-in_front-requires-clause-within : goal.choose-in_front-requires-clause-within
+choose-in_front-requires-clause-within t c =
+    (1, one_known, within_here c.args.system.now c.args.table.now.system c.args.eq c.choose_term-cut.result.at c.args.size c.choose_term-cut.result.left c.in-Node.root c.in-Node.children c.requires.stands (c.term.ensures ∙ ap Some c.in-Node.is) c.choose_term-cut.ensures.left)
+
+pub loop-i-init : goal.loop-i-init
+loop-i-init t c = sym (append-nil c.args.out.now.items)
+
+pub bounds-picks-i : goal.bounds-picks-i
+bounds-picks-i t c =
+    let g = node_form c.args.system.now c.args.eq c.choose_term-cut.result.at c.in-Node.root c.in-Node.children c.requires.formed (c.term.ensures ∙ ap Some c.in-Node.is) in
+    omega (arith, g.ten, c.loop-i-test.true, c.len-i-end.ensures)
+
+pub offset_bounds-picks-i : goal.offset_bounds-picks-i
+offset_bounds-picks-i t c =
+    let g = node_form c.args.system.now c.args.eq c.choose_term-cut.result.at c.in-Node.root c.in-Node.children c.requires.formed (c.term.ensures ∙ ap Some c.in-Node.is) in
+    omega (arith, g.ten, c.loop-i-test.true, c.len-i-end.ensures)
+
+pub lower_sizes-requires-clause-i : goal.lower_sizes-requires-clause-i
+lower_sizes-requires-clause-i t c =
+    let g = node_form c.args.system.now c.args.eq c.choose_term-cut.result.at c.in-Node.root c.in-Node.children c.requires.formed (c.term.ensures ∙ ap Some c.in-Node.is) in
+    omega (arith, g.long, c.loop-i-test.true, c.len-i-end.ensures)
+
+pub lower_sizes-requires-clause-ten : goal.lower_sizes-requires-clause-ten
+lower_sizes-requires-clause-ten t c =
+    let g = node_form c.args.system.now c.args.eq c.choose_term-cut.result.at c.in-Node.root c.in-Node.children c.requires.formed (c.term.ensures ∙ ap Some c.in-Node.is) in
+    omega (arith, g.long, g.ten)
+
+pub lower_sizes-requires-clause-most : goal.lower_sizes-requires-clause-most
+lower_sizes-requires-clause-most t c =
+    let S = c.args.system.now in
+    let e = c.term.ensures ∙ ap Some c.in-Node.is in
+    let g = node_form S c.args.eq c.choose_term-cut.result.at c.in-Node.root c.in-Node.children c.requires.formed e in
+    let ch = chosen_here S c.args.table.now.system c.args.eq c.choose_term-cut.result.at c.args.size c.choose_term-cut.result.left c.choose-in_front.result c.in-Node.root c.in-Node.children c.choose-in_front.new.picks c.requires.stands e c.choose_term-cut.ensures.left c.choose-in_front.ensures in
+    let l = lower_upto S (get_or c.in-Node.root c.loop-i.i 0) c.in-Node.root c.in-Node.children c.args.size c.choose-in_front.new.picks g.long ch.fits in
+    omega (arith, l, c.requires.raise)
+
+pub overflow_add-up : goal.overflow_add-up
+overflow_add-up t c =
+    let S = c.args.system.now in
+    let e = c.term.ensures ∙ ap Some c.in-Node.is in
+    let g = node_form S c.args.eq c.choose_term-cut.result.at c.in-Node.root c.in-Node.children c.requires.formed e in
+    let ch = chosen_here S c.args.table.now.system c.args.eq c.choose_term-cut.result.at c.args.size c.choose_term-cut.result.left c.choose-in_front.result c.in-Node.root c.in-Node.children c.choose-in_front.new.picks c.requires.stands e c.choose_term-cut.ensures.left c.choose-in_front.ensures in
+    let l = lower_upto S (get_or c.in-Node.root c.loop-i.i 0) c.in-Node.root c.in-Node.children c.args.size c.choose-in_front.new.picks g.long ch.fits in
+    omega (arith, l, c.requires.raise, c.lower_sizes.ensures)
+
+pub push_member-requires : goal.push_member-requires
+push_member-requires t c =
+    let S = c.args.system.now in
+    let cs = c.in-Node.children in
+    let root = c.in-Node.root in
+    let ps = c.choose-in_front.new.picks in
+    let i = c.loop-i.i in
+    let n = c.args.size in
+    let e = c.term.ensures ∙ ap Some c.in-Node.is in
+    let g = node_form S c.args.eq c.choose_term-cut.result.at root cs c.requires.formed e in
+    let ch = chosen_here S c.args.table.now.system c.args.eq c.choose_term-cut.result.at n c.choose_term-cut.result.left c.choose-in_front.result root cs ps c.requires.stands e c.choose_term-cut.ensures.left c.choose-in_front.ensures in
+    let less : i < length cs = omega (arith, c.loop-i-test.true, c.len-i-end.ensures) in
+    let x = child_is cs i c.get.result.now c.get.ensures in
+    let known = (node_form S c.args.eq c.choose_term-cut.result.at root cs c.requires.formed e).known i less in
+    let f = fitting_at S cs n i ps none less ch.fits in
+    let rank = subst (λ z. (get_or c.choose-in_front.new.picks c.loop-i.i none).rank < count_at c.args.system.now z (get_or c.choose-in_front.new.picks c.loop-i.i none).size) x f.rank in
+    let small = fitting_less S cs n i ps none less g.two ch.fits in
+    let fits = lower_fits S (get_or root i 0) root cs n i ps none g.long less refl ch.fits in
+    let blocks = picked (members_at S) cs ps in
+    let lp = length_picked S cs n ps ch.fits in
+    let whole : length (inflate root blocks) ≡ n =
+    ap length (sym (term_entry S c.requires.formed c.args.eq n c.choose_term-cut.result.at c.choose_term-cut.result.left c.args.r c.choose_term-cut.ensures.term c.choose_term-cut.ensures.left c.choose_term-cut.ensures.place
+    ∙ node_member S n c.choose_term-cut.result.left c.choose-in_front.result c.args.eq c.choose_term-cut.result.at root cs ps e c.choose_term-cut.ensures.left ch))
+    ∙ (member_word S c.requires.formed c.args.eq n c.args.r c.requires.within).long in
+    let own : length (get_or blocks i []) ≡ (get_or ps i none).size = ap length (picked_at (members_at S) (count_at S) cs n i ps none less ch.fits) ∙ (member_word S c.requires.formed (get_or cs i 0) (get_or ps i none).size (get_or ps i none).rank f.rank).long in
+    let room = room_left c.args.raise i n root blocks c.loop-i.out.items c.args.out.now.items (omega (arith, less, lp)) (omega (arith, g.long, lp)) whole c.loop-i.invariant in (
+      omega (arith, small, c.decreases),
+      (
+        c.requires.formed,
+        (
+          c.requires.stands,
+          (
+            subst (λ z. z < length c.args.system.now.equations) x known,
+            (
+              f.least,
+              (
+                omega (arith, f.most, c.requires.most),
+                (
+                  rank,
+                  (omega (arith, fits, c.lower_sizes.ensures, c.requires.raise), omega (arith, room, own, c.requires.room)),
+                ),
+              ),
+            ),
+          ),
+        ),
+      ),
+    )
+
+pub loop-i-preserved : goal.loop-i-preserved
+loop-i-preserved t c =
+    let S = c.args.system.now in
+    let cs = c.in-Node.children in
+    let root = c.in-Node.root in
+    let ps = c.choose-in_front.new.picks in
+    let i = c.loop-i.i in
+    let n = c.args.size in
+    let e = c.term.ensures ∙ ap Some c.in-Node.is in
+    let g = node_form S c.args.eq c.choose_term-cut.result.at root cs c.requires.formed e in
+    let ch = chosen_here S c.args.table.now.system c.args.eq c.choose_term-cut.result.at n c.choose_term-cut.result.left c.choose-in_front.result root cs ps c.requires.stands e c.choose_term-cut.ensures.left c.choose-in_front.ensures in
+    let less : i < length cs = omega (arith, c.loop-i-test.true, c.len-i-end.ensures) in
+    let x = child_is cs i c.get.result.now c.get.ensures in
+    let lp = length_picked S cs n ps ch.fits in
+    lifted_more c.args.raise c.lower_sizes.result root (picked (members_at S) cs ps) i c.args.out.now.items c.loop-i.out.items c.push_member.new.out.items
+    (get_or (members_at S c.get.result.now (get_or ps i none).size) (get_or ps i none).rank [])
+    c.loop-i.invariant c.push_member.ensures
+    (c.lower_sizes.ensures ∙ sym (lower_below S c.requires.formed (get_or root i 0) root cs n ps g.long ch.fits))
+    (sym (picked_at (members_at S) (count_at S) cs n i ps none less ch.fits ∙ ap (λ z. get_or (members_at S z (get_or ps i none).size) (get_or ps i none).rank []) x))
+
+pub returns-in-Point : goal.returns-in-Point
+returns-in-Point t c =
+    let S = c.args.system.now in
+    let e = c.term.ensures ∙ ap Some c.in-Point.is in
+    let cut = c.choose_term-cut in
+    let w : get_or (members_at S c.args.eq c.args.size) c.args.r [] ≡ 1 ∷ [] =
+    term_entry S c.requires.formed c.args.eq c.args.size c.choose_term-cut.result.at c.choose_term-cut.result.left c.args.r c.choose_term-cut.ensures.term c.choose_term-cut.ensures.left c.choose_term-cut.ensures.place
+    ∙ point_entry S c.args.size c.choose_term-cut.result.left (term_at S c.args.eq c.choose_term-cut.result.at) e c.choose_term-cut.ensures.left in
+    let a : 1 + c.args.raise ≡ c.args.raise + 1 = omega arith in
+    c.push.ensures.items ∙ ap (λ z. c.args.out.now.items ++ z) (sym (ap (map (λ x. x + c.args.raise)) w ∙ ap (λ z. z ∷ []) a))
+
+pub returns-after-loop-i : goal.returns-after-loop-i
+returns-after-loop-i t c =
+    let S = c.args.system.now in
+    let cs = c.in-Node.children in
+    let root = c.in-Node.root in
+    let ps = c.choose-in_front.new.picks in
+    let n = c.args.size in
+    let e = c.term.ensures ∙ ap Some c.in-Node.is in
+    let g = node_form S c.args.eq c.choose_term-cut.result.at root cs c.requires.formed e in
+    let ch = chosen_here S c.args.table.now.system c.args.eq c.choose_term-cut.result.at n c.choose_term-cut.result.left c.choose-in_front.result root cs ps c.requires.stands e c.choose_term-cut.ensures.left c.choose-in_front.ensures in
+    let lp = length_picked S cs n ps ch.fits in
+    all_stand c.args.raise c.loop-i.i root (picked (members_at S) cs ps) c.loop-i.out.items c.args.out.now.items (omega (arith, g.long, c.loop-i-test.false, c.len-i-end.ensures, c.loop-i.auto.i-end)) c.loop-i.invariant
+    ∙ ap (λ z. c.args.out.now.items ++ map (λ x. x + c.args.raise) z)
+    (sym (term_entry S c.requires.formed c.args.eq n c.choose_term-cut.result.at c.choose_term-cut.result.left c.args.r c.choose_term-cut.ensures.term c.choose_term-cut.ensures.left c.choose_term-cut.ensures.place
+    ∙ node_member S n c.choose_term-cut.result.left c.choose-in_front.result c.args.eq c.choose_term-cut.result.at root cs ps e c.choose_term-cut.ensures.left ch))
