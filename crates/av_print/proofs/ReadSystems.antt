@@ -5,7 +5,7 @@ use Rattle.std.specs.List.{join_by}
 use Rattle.std.proofs.lemmas.Bool.{or_cases}
 use Rattle.std.proofs.lemmas.List.{append_cancel_left}
 use Rattle.av_perm.specs.Relations.{IsWord, sum_root, skew_root}
-use Rattle.av_perm.proofs.Membership.{Each}
+use Rattle.av_perm.proofs.Membership.{Each, at_In}
 use Rattle.av_perm.proofs.WordTests.{word_from}
 use Rattle.av_sys.specs.declared.names.Sign.{Sign}
 use Rattle.av_sys.specs.declared.names.Sign.TheVariants.{C, P, M}
@@ -14,11 +14,12 @@ use Rattle.av_sys.specs.declared.terms.Term.{Term}
 use Rattle.av_sys.specs.declared.terms.Term.TheVariants.{Point, Node}
 use Rattle.av_sys.specs.declared.terms.Equation.{Equation}
 use Rattle.av_sys.specs.declared.terms.System.{System}
-use Rattle.av_sys.specs.Terms.{IsSystemRoot, IsTermOf, IsWellFormed}
+use Rattle.av_sys.specs.Names.{IsMadeOfWords}
+use Rattle.av_sys.specs.Terms.{IsSystemRoot, IsTermOf, IsWellFormed, AreNamedByWords}
 use Rattle.av_text.specs.Lines.{is_line_feed}
 use Rattle.av_print.specs.Text.{word_text, words_text, root_text}
 use Rattle.av_print.specs.Systems.{number_text, children_text, term_text, terms_text, sign_text, name_text, equation_text, equations_text, terms_count, counts_text, system_text}
-use Rattle.av_print.specs.Laws.{AreNamedByWords, SystemTextLaw}
+use Rattle.av_print.specs.Laws.{SystemTextLaw}
 use Rattle.av_print.proofs.UniqueReading.{Begins, Any, IsReadOff, AreSome, AreSeparated, IsWritable, begins_apart, begins_wider, bytes_apart, cut_once, is_no_digit, numeral_free, number_read, joined_read, separated}
 use Rattle.av_print.proofs.ReadWords.{AreShortWords, perms_short, IsShortWord, FollowsWords, is_no_word_byte, is_root_byte, root_read, root_begins, words_read}
 
@@ -249,10 +250,13 @@ after_counts m n k l u v e =
 
 -- the equations of a system can be read
 system_equations : (S : System) → IsWellFormed S → AreNamedByWords S → Each IsEquation S.equations
-system_equations S formed named e i = record {
-  name = record { avoid = perms_short e.name.avoid (named.avoided e i); require = perms_short e.name.require (named.required e i) };
-  terms = λ t j. some_term (length S.equations) t formed.few (formed.terms e t i j);
-}
+system_equations S formed named e i =
+    let s = at_In S.equations e e i in
+    let words : IsMadeOfWords e.name = subst (λ (x : Equation). IsMadeOfWords x.name) s.2 (named s.0 e s.1) in
+    record {
+      name = record { avoid = perms_short e.name.avoid words.avoided; require = perms_short e.name.require words.required };
+      terms = λ t j. some_term (length S.equations) t formed.few (formed.terms e t i j);
+    }
 
 -- two different systems have different texts
 pub system_text_once : SystemTextLaw

@@ -37,7 +37,7 @@ pub short_each : (ws : List (List ℕ)) → AreShortWords ws → Each IsShortWor
 short_each ws are w i = record { word = words_each ws are.words w i; short = are.short w i }
 
 -- an entry is at most the length
-entry_least : (w : List ℕ) → IsWord w → (n : ℕ) → In n w → n ≤ length w
+pub entry_least : (w : List ℕ) → IsWord w → (n : ℕ) → In n w → n ≤ length w
 entry_least w word n i =
     let s = at_In w n 0 i in
     let within = word.numbers.within s.0 s.1 in
@@ -79,11 +79,11 @@ entries_separated : AreSeparated IsWritable (Begins is_no_digit) (Begins is_no_w
 entries_separated = separated _ is_no_digit is_no_word_byte decimal (codes ",") number_read (λ u. refl) (λ u. refl) no_digit_from
 
 -- the two forms of a word's text
-short_form : (w : List ℕ) → length w ≤ 9 → word_text w ≡ join_by decimal [] w
+pub short_form : (w : List ℕ) → length w ≤ 9 → word_text w ≡ join_by decimal [] w
 unfolding word_text
 short_form w le = ap (λ (b : Bool). cond b (join_by decimal [] w) (join_by decimal (codes ",") w)) (le-leb (length w) 9 le)
 
-long_form : (w : List ℕ) → 9 < length w → word_text w ≡ join_by decimal (codes ",") w
+pub long_form : (w : List ℕ) → 9 < length w → word_text w ≡ join_by decimal (codes ",") w
 unfolding word_text
 long_form w lt = ap (λ (b : Bool). cond b (join_by decimal [] w) (join_by decimal (codes ",") w)) (lt-leb (length w) 9 lt)
 

@@ -77,7 +77,7 @@ up_to_part_of old mid new text s rest u p =
     rw whole (part_more old new (u.part ++ s) rest (part_step old mid new u.part s u.grows p))
 
 -- the texts of the items from an index on begin with that of the item there
-items_from : {X : Type 0} (f : X → List ℕ) (xs : List X) (i : ℕ) (x : X) → i < length xs → x ≡ get_or xs i x
+pub items_from : {X : Type 0} (f : X → List ℕ) (xs : List X) (i : ℕ) (x : X) → i < length xs → x ≡ get_or xs i x
     → flat_map f (drop i xs) ≡ f x ++ flat_map f (drop (i + 1) xs)
 items_from f xs i x lt e =
     ap (flat_map f) (drop-cons xs i x lt) ∙ ap (λ n. f (get_or xs i x) ++ flat_map f (drop n xs)) (sym (add-one i))

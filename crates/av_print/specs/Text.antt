@@ -1,14 +1,23 @@
 -- Texts, as lists of bytes.
 use Rattle.std.specs.Prelude.{ℕ, List, [], ◌∷◌, ◌++◌, length, nat_le, if◌then◌else◌, Option, Some, None, codes, decimal}
 use Rattle.std.specs.List.{join_by}
+use Rattle.av_count.specs.declared.count.Count.{Count}
+use Rattle.av_count.specs.declared.count.Count.TheVariants.{Known, Over}
 use Rattle.av_decomp.specs.RootTrees.{RootTrees, none, more, RootTree}
+use Rattle.av_text.specs.declared.queries.Form.TheVariants as form
 use Rattle.av_text.specs.declared.queries.Query.{Query}
 use Rattle.av_text.specs.declared.queries.Query.TheVariants as query
+use Rattle.av_text.specs.Queries.{form_name}
 
 -- one text, and then another
 infixr 65 ◌⊹◌
 abbrev pub ◌⊹◌ : List ℕ → List ℕ → List ℕ
 s ⊹ t = s ++ t
+
+-- a count: its numeral, or `over` where it is 2 ^ 128 or more
+abbrev pub count_text : Count → List ℕ
+count_text (Known n) = decimal n
+count_text Over = codes "over"
 
 -- a word: its digits up to nine entries, else its entries joined by commas
 unfoldable pub word_text : List ℕ → List ℕ
@@ -19,10 +28,32 @@ unfoldable pub words_text : List (List ℕ) → List ℕ
 words_text [] = codes "none"
 words_text (w ∷ ws) = join_by word_text (codes " ") (w ∷ ws)
 
+-- places of a word, joined by single spaces
+unfoldable pub places_text : List ℕ → List ℕ
+places_text places = join_by decimal (codes " ") places
+
+-- the line of a word with its rank
+unfoldable pub ranked_text : ℕ → List ℕ → List ℕ
+ranked_text r w = decimal r ⊹ codes " " ⊹ word_text w ⊹ codes "\n"
+
+-- texts with single spaces between them
+abbrev pub spaced : List (List ℕ) → List ℕ
+spaced [] = []
+spaced (t ∷ []) = t
+spaced (t ∷ u ∷ ts) = t ⊹ codes " " ⊹ spaced (u ∷ ts)
+
+-- the tokens of a query: the name of its form and the texts of its arguments
+unfoldable pub query_tokens : Query → List (List ℕ)
+query_tokens (query.Count n) = form_name form.Count ∷ decimal n ∷ []
+query_tokens (query.Counts n) = form_name form.Counts ∷ decimal n ∷ []
+query_tokens (query.List n r k) = form_name form.List ∷ decimal n ∷ codes "from" ∷ decimal r ∷ codes "for" ∷ decimal k ∷ []
+query_tokens (query.Unrank n r) = form_name form.Unrank ∷ decimal n ∷ decimal r ∷ []
+query_tokens (query.Rank w) = form_name form.Rank ∷ word_text w ∷ []
+query_tokens (query.Tree w) = form_name form.Tree ∷ word_text w ∷ []
+
 -- the canonical text of a query
 unfoldable pub query_text : Query → List ℕ
-query_text (query.Count n) = codes "count " ⊹ decimal n
-query_text (query.Tree w) = codes "tree " ⊹ word_text w
+query_text q = spaced (query_tokens q)
 
 -- a root: its word, in round brackets where it has more than nine entries
 unfoldable pub root_text : List ℕ → List ℕ

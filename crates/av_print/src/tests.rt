@@ -1,8 +1,14 @@
-use crate::{Bytes, Number, Text, put, put_number, put_system, put_tree, put_word, put_words};
+use crate::{
+    Bytes, Joined, Number, RankedWord, Text, put, put_count, put_number, put_system, put_tree,
+    put_word, put_words,
+};
+use av_count::Count;
 use av_decomp::tree;
 use av_io::{MemSink, Sink, SinkFault, SureSink};
+use av_match::find;
 use av_perm::{Perm, Words};
 use av_sys::{Children, Equation, Equations, Name, Sign, System, Term, Terms};
+use av_text::Query;
 use std::alloc::Global;
 use std::test::Fail;
 
@@ -17,6 +23,21 @@ fn bytes_and_numerals(rt: HostRuntime) {
     assert_eq!(rt;
         sink.bytes(),
         &b"count 0 = 340282366920938463463374607431768211455"[..]
+    );
+}
+
+#[test]
+fn counts_joined_by_spaces(rt: HostRuntime) {
+    let mut sink = SureSink::new(rt.alloc());
+    let counts = Joined {
+        separator: b" ",
+        items: &[Count::Known(1), Count::Known(429), Count::Over],
+    };
+    assert_eq!(rt; counts.put_on(&mut sink), Ok(()));
+    assert_eq!(rt; put_count(&mut sink, Count::Known(u128::MAX)), Ok(()));
+    assert_eq!(rt;
+        sink.bytes(),
+        &b"1 429 over340282366920938463463374607431768211455"[..]
     );
 }
 
@@ -36,6 +57,61 @@ fn words_and_lists_of_words(rt: HostRuntime) -> Result<(), Fail> {
         sink.bytes(),
         &b"none\nbasis 2413 1 10,2,3,4,5,6,7,8,9,1\n123456789"[..]
     );
+    Ok(())
+}
+
+// Writes the query's canonical text, and a line feed.
+fn put_line<K: Sink>(sink: &mut K, query: Query) -> Result<(), Fail> {
+    (query, Bytes(b"\n")).put_on(sink)?;
+    Ok(())
+}
+
+#[test]
+fn canonical_texts_of_queries(rt: HostRuntime) -> Result<(), Fail> {
+    let mut sink = SureSink::new(rt.alloc());
+    let word = Perm::from_entries(&[2, 1, 3])?;
+    put_line(&mut sink, Query::Count { n: 7 })?;
+    put_line(&mut sink, Query::Counts { n: 160 })?;
+    put_line(
+        &mut sink,
+        Query::List {
+            n: 5,
+            start: 2,
+            many: 1_000_000,
+        },
+    )?;
+    put_line(
+        &mut sink,
+        Query::Unrank {
+            n: 10,
+            r: u128::MAX,
+        },
+    )?;
+    put_line(&mut sink, Query::Rank { word: word.copy() })?;
+    put_line(&mut sink, Query::Tree { word })?;
+    assert_eq!(rt;
+        sink.bytes(),
+        &b"count 7\ncounts 160\nlist 5 from 2 for 1000000\n\
+           unrank 10 340282366920938463463374607431768211455\nrank 213\ntree 213\n"[..]
+    );
+    Ok(())
+}
+
+#[test]
+fn a_word_with_its_rank_and_its_places(rt: HostRuntime) -> Result<(), Fail> {
+    let mut sink = SureSink::new(rt.alloc());
+    let word = Perm::from_entries(&[1, 3, 2])?;
+    let ranked = RankedWord {
+        rank: 12,
+        word: &word,
+    };
+    assert_eq!(rt; ranked.put_on(&mut sink), Ok(()));
+    let falling = Perm::from_entries(&[2, 1])?;
+    match find(&word, &falling) {
+        Some(places) => assert_eq!(rt; places.put_on(&mut sink), Ok(())),
+        None => assert!(rt; false, "the word falls"),
+    }
+    assert_eq!(rt; sink.bytes(), &b"12 132\n2 3"[..]);
     Ok(())
 }
 
