@@ -4,14 +4,13 @@ use Rattle.std.proofs.lemmas.Bool.{and_parts}
 use Rattle.std.proofs.lemmas.List.Elements.{All-get_or}
 use Rattle.av_perm.specs.Members.{IsListOf}
 use Rattle.av_perm.specs.Word.{is_word}
-use Rattle.av_perm.specs.Class.{class_at, minimal}
+use Rattle.av_perm.specs.Class.{minimal}
 use Rattle.av_perm.specs.Gap.{simples, IsSettled, IsUnsettled}
 use Rattle.av_perm.specs.Relations.{InClass, InClassAt, AreWords}
 use Rattle.av_perm.specs.Laws.{IsSimpleOf, IsGap, IsLeastGap}
 use Rattle.av_perm.proofs.WordTests.{word_from}
 use Rattle.av_perm.proofs.MinimalWords.{minimal_list}
 use Rattle.av_perm.proofs.Classes.{minimal_holds}
-use Rattle.av_perm.proofs.WordLists.{class_list}
 use Rattle.av_perm.proofs.SimpleWords.{simples_list}
 use Rattle.av_perm.proofs.Gaps.{gap_law}
 use Rattle.av_text.specs.declared.script.Script.{Script}
@@ -19,7 +18,9 @@ use Rattle.av_text.specs.Read.{read}
 use Rattle.av_text.specs.Ranges.{IsBasisWord}
 use Rattle.av_text.proofs.Kept.{read_kept}
 use Rattle.av_decomp.proofs.DecompositionTrees.{tree_law}
-use Rattle.av_session.specs.Runs.{IsAbout}
+use Rattle.av_session.specs.declared.options.Options.{Options}
+use Rattle.av_session.specs.Runs.{IsAbout, HasCases}
+use Rattle.av_session.proofs.SolvedClasses.{done_to, done_from, too_large_to, too_large_from, unsettled_to, unsettled_from}
 
 -- the words of a basis line are words
 pub are_words : (ws : List (List ℕ)) → All IsBasisWord ws → AreWords ws
@@ -48,12 +49,6 @@ module _ (A B : List (List ℕ)) (same : (σ : List ℕ) → InClass A σ ↔ In
   gap_to : (g : ℕ) → IsGap B g → IsGap A g
   unfolding simple_from
   gap_to g p = record { high = p.high; none = λ w s. p.none w (simple_from g w s); none_next = λ w s. p.none_next w (simple_from (suc g) w s) }
-
-  pub counted_same : (n : ℕ) → 1 ≤ n → IsListOf (InClassAt B n) (class_at A n)
-  unfolding at_from at_to
-  counted_same n h =
-      let l = class_list A n h in
-      record { members = λ w. (λ i. at_from n w ((l.members w).0 i), λ c. (l.members w).1 (at_to n w c)); once = l.once }
 
   pub simple_same : (m : ℕ) → IsListOf (IsSimpleOf B m) (simples A m)
   unfolding simple_from simple_to
@@ -85,9 +80,29 @@ about bytes script e =
       words = words;
       minimal_words = minimal_list script.basis;
       same_class = same;
-      counted = counted_same (minimal script.basis) script.basis same;
       simple_words = simple_same (minimal script.basis) script.basis same;
       gap = settled_same (minimal script.basis) script.basis same;
       no_gap = unsettled_same (minimal script.basis) script.basis same;
       tree = tree_law;
+    }
+
+-- the three cases of a class
+pub cases : (o : Options) (bytes : List ℕ) (script : Script) → read bytes ≡ Ok script → HasCases o script.basis
+cases o bytes script e =
+    let same = (minimal_holds script.basis).same_class (are_words script.basis (read_kept bytes script e).words) in
+    let settled = settled_same (minimal script.basis) script.basis same o.max_simple in
+    let unsettled = unsettled_same (minimal script.basis) script.basis same o.max_simple in
+    record {
+      settled = (
+        λ d. let p = done_from o (minimal script.basis) d in (p.0, (settled p.0).0 p.1, p.2),
+        λ p. done_to o (minimal script.basis) p.0 ((settled p.0).1 p.1) p.2,
+      );
+      too_large = (
+        λ d. let p = too_large_from o (minimal script.basis) d in (p.0, (settled p.0).0 p.1, p.2),
+        λ p. too_large_to o (minimal script.basis) p.0 ((settled p.0).1 p.1) p.2,
+      );
+      unsettled = (
+        λ d. unsettled.0 (unsettled_from o (minimal script.basis) d),
+        λ none. unsettled_to o (minimal script.basis) (unsettled.1 none),
+      );
     }

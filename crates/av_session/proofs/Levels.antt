@@ -25,3 +25,7 @@ text_fault f m last old mid new text h u p = up_to_part_of old mid new text (f m
 
 pub text_end : (f : ℕ → List ℕ) (m last : ℕ) (old new : Option (List ℕ)) (text : List ℕ) → last + 1 ≤ m → AppendsUpTo old new text (texts_from f m last) → Appends old new text
 text_end f m last old new text h u = let n : last + 1 - m ≡ 0 = omega arith in up_to_end old new text (texts_from f m last) u (ap (λ k. flat_map f (counting m k)) n)
+
+-- the lengths from 1 to n
+pub texts_one : (f : ℕ → List ℕ) (n : ℕ) → flat_map f (counting 1 n) ≡ texts_from f 1 n
+texts_one f n = let e : n ≡ n + 1 - 1 = omega arith in ap (λ k. flat_map f (counting 1 k)) e

@@ -3,8 +3,6 @@ use Rattle.std.proofs.Common.{◌≡◌, ℕ, ◌<◌, ◌≤◌, ◌⊎◌, inl
 use Rattle.std.proofs.lemmas.Bool.{cases_lt, lt-ltb}
 use Rattle.std.specs.Io.KnownBytes.{IsAtEnd}
 use Rattle.av_perm.specs.Class.{minimal}
-use Rattle.av_perm.specs.Gap.{simples_below}
-use Rattle.av_build.specs.Canonical.{IsTooLarge}
 use Rattle.av_text.specs.declared.script.Script.{Script}
 use Rattle.av_text.specs.declared.kind.Kind.TheVariants.{TooLong}
 use Rattle.av_text.specs.Read.{read, Fault}
@@ -12,6 +10,7 @@ use Rattle.av_session.specs.declared.options.Options.{Options}
 use Rattle.av_session.specs.declared.status.Status.{Status}
 use Rattle.av_session.specs.declared.status.Status.TheVariants as status
 use Rattle.av_session.specs.Taken.{TakesAll}
+use Rattle.av_session.specs.Solved.{solved, status_of}
 use Rattle.av_session.specs.Due.{text_due, text_of}
 use Rattle.av_session.specs.Status.{HoldsText, FitsText, FitsRead, FitsScript}
 use Rattle.av_session.specs.Options.{options}
@@ -115,14 +114,14 @@ memory_fits_all words (Some bytes) = by (options words)
 pub complete_by : (s : Status) (left : Option (List ℕ)) (words : List (List ℕ)) (R W : Type 0) → (s ≡ status.Words → options words ≡ None) → (s ≡ status.ReadFault → R) → (s ≡ status.WriteFault → W)
     → IfSome left (λ bytes. Fits s words bytes) → IsComplete s left words R W
 unfolding Fits
-complete_by s left words R W no_words read_rose write_rose fits bytes o script g l a r settled within no_read no_write = by s no_words read_rose write_rose here
+complete_by s left words R W no_words read_rose write_rose fits bytes o script class l a r settled no_read no_write = by s no_words read_rose write_rose here
   where
     told : (left : Option (List ℕ)) → left ≡ Some bytes → IfSome left (λ bytes. Fits_of s (options words) bytes) → Fits_of s (options words) bytes
     told None e f = absurd (cc)
     told (Some all) e f = let same : all ≡ bytes = cc in subst (λ b. Fits_of s (options words) b) same f
 
-    too_large : IsTooLarge (minimal script.basis) (simples_below (minimal script.basis) g) o.max_size → ⊥
-    too_large h = omega (arith, h, within)
+    done : status_of (solved o (minimal script.basis)) ≡ status.Done
+    done = rw settled refl
 
     here : FitsScript s o script
     here = rw r at (rw a at (told left l fits))
@@ -134,8 +133,5 @@ complete_by s left words R W no_words read_rose write_rose fits bytes o script g
     by status.ReadFault n p q f = absurd (no_read (p refl))
     by status.WriteFault n p q f = absurd (no_write (q refl))
     by status.Refused n p q f = absurd f
-    by status.Unsettled n p q f = absurd (let e : Some g ≡ None = sym settled ∙ f in cc)
-    by status.TooLarge n p q f =
-        let e : Some f.0 ≡ Some g = sym f.1 ∙ settled in
-        let same : f.0 ≡ g = cc in
-        absurd (too_large (subst (λ h. IsTooLarge (minimal script.basis) (simples_below (minimal script.basis) h) o.max_size) same f.2))
+    by status.Unsettled n p q f = absurd (cc)
+    by status.TooLarge n p q f = absurd (cc)

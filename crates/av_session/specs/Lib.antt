@@ -1,7 +1,11 @@
 pub mod Taken
 pub mod Options
 pub mod Stops
+pub mod Answers
+pub mod Serving
+pub mod Shown
 pub mod Due
 pub mod Status
-pub mod Ends
+pub mod Classes
+pub mod Solved
 pub mod Runs

@@ -5,6 +5,7 @@ use Rattle.std.specs.Option.{option_map, option_and_then}
 use Rattle.std.specs.Result.{result_ok}
 use Rattle.av_perm.specs.Lists.{same}
 use Rattle.av_text.specs.Numerals.{number_in}
+use Rattle.av_session.specs.declared.options.TheConstants.{LEAST_MAX_SIMPLE, GREATEST_MAX_SIMPLE, DEFAULT_MAX_SIMPLE, GREATEST_MAX_SIZE, DEFAULT_MAX_SIZE}
 use Rattle.av_session.specs.declared.options.Chosen.{Chosen}
 use Rattle.av_session.specs.declared.options.Options.{Options}
 use Rattle.av_session.specs.declared.options.WordsError.{WordsError}
@@ -23,15 +24,15 @@ unfoldable pub set_once : ℕ → ℕ → Option ℕ → List ℕ → Option ℕ
 set_once low high None value = result_ok (number_in low high value)
 set_once low high (Some before) value = None
 
--- `--max-simple`: from 5 to 10
+-- `--max-simple`, within its limits
 abbrev pub choose_max_simple : Chosen → List ℕ → Option Chosen
 choose_max_simple chosen value =
-    option_map (λ k. record chosen { max_simple = Some k }) (set_once 5 10 chosen.max_simple value)
+    option_map (λ k. record chosen { max_simple = Some k }) (set_once LEAST_MAX_SIMPLE GREATEST_MAX_SIMPLE chosen.max_simple value)
 
--- `--max-size`: from 1 to 65,536
+-- `--max-size`, from 1 on
 abbrev pub choose_max_size : Chosen → List ℕ → Option Chosen
 choose_max_size chosen value =
-    option_map (λ l. record chosen { max_size = Some l }) (set_once 1 65536 chosen.max_size value)
+    option_map (λ l. record chosen { max_size = Some l }) (set_once 1 GREATEST_MAX_SIZE chosen.max_size value)
 
 -- what is chosen after the option of this name and value; there is no option of another name
 unfoldable pub choose : Chosen → List ℕ → List ℕ → Option Chosen
@@ -57,7 +58,7 @@ nothing_chosen = record { max_simple = None; max_size = None }
 
 -- the options where no word sets one
 abbrev pub default_options : Options
-default_options = record { max_simple = 8; max_size = 20000 }
+default_options = record { max_simple = DEFAULT_MAX_SIMPLE; max_size = DEFAULT_MAX_SIZE }
 
 -- what was chosen, and the defaults of the others
 abbrev pub with_defaults : Chosen → Options
@@ -72,10 +73,10 @@ options words = option_map with_defaults (choose_all words nothing_chosen)
 
 -- the values chosen are in their ranges
 pub record AreInRanges (chosen : Chosen) : Type 0 where
-  pub simple_low : IfSome chosen.max_simple (λ k. 5 ≤ k)
-  pub simple_high : IfSome chosen.max_simple (λ k. k ≤ 10)
+  pub simple_low : IfSome chosen.max_simple (λ k. LEAST_MAX_SIMPLE ≤ k)
+  pub simple_high : IfSome chosen.max_simple (λ k. k ≤ GREATEST_MAX_SIMPLE)
   pub size_low : IfSome chosen.max_size (λ l. 1 ≤ l)
-  pub size_high : IfSome chosen.max_size (λ l. l ≤ 65536)
+  pub size_high : IfSome chosen.max_size (λ l. l ≤ GREATEST_MAX_SIZE)
 
 -- an answer is the options of the words, unless memory is wanting
 abbrev pub GivesOptions : Result Options WordsError → Option Options → Type 0
@@ -85,7 +86,7 @@ GivesOptions (Err error.Words) said = said ≡ None
 
 -- options within their ranges
 pub record IsAllowed (options : Options) : Type 0 where
-  pub low : 5 ≤ options.max_simple
-  pub high : options.max_simple ≤ 10
+  pub low : LEAST_MAX_SIMPLE ≤ options.max_simple
+  pub high : options.max_simple ≤ GREATEST_MAX_SIMPLE
   pub some : 1 ≤ options.max_size
-  pub few : options.max_size ≤ 65536
+  pub few : options.max_size ≤ GREATEST_MAX_SIZE

@@ -1,27 +1,33 @@
 -- What a run is about: the text due of the words and the bytes, what it says of the class, and what its system generates.
-use Rattle.std.specs.Prelude.{◌≡◌, ℕ, suc, ◌≤◌, ◌↔◌, ◌⊎◌, List, [], flat_map, Option, Some, None, Ok}
+use Rattle.std.specs.Prelude.{◌≡◌, ℕ, suc, ◌≤◌, ◌↔◌, ◌⊎◌, List, [], length, flat_map, find, slice_get, Option, Some, None, Ok}
 use Rattle.std.specs.Io.KnownBytes.{IsAtEnd}
 use Rattle.av_perm.specs.Members.{IsListOf}
-use Rattle.av_perm.specs.Class.{class_at, minimal}
+use Rattle.av_perm.specs.Class.{minimal}
+use Rattle.av_perm.specs.Contain.{contains, first_occurrence}
 use Rattle.av_perm.specs.Gap.{simples, simples_below, IsSettled, IsUnsettled}
-use Rattle.av_perm.specs.Relations.{IsWord, InClass, InClassAt, AreWords}
+use Rattle.av_perm.specs.Relations.{IsWord, OccursAt, InClass, InClassAt, AreWords}
 use Rattle.av_perm.specs.Laws.{IsSimpleOf, IsMinimalIn, IsGap, IsLeastGap}
 use Rattle.av_decomp.specs.Laws.{HasTree}
 use Rattle.av_sys.specs.declared.terms.System.{System}
-use Rattle.av_sys.specs.Terms.{IsWellFormed}
-use Rattle.av_sys.specs.Exact.{ExactUpTo, NamedUpTo}
-use Rattle.av_build.specs.Canonical.{IsCanonical}
+use Rattle.av_sys.specs.Terms.{IsWellFormed, AreNamedByWords}
+use Rattle.av_sys.specs.TreeLists.{members, count_of}
+use Rattle.av_sys.specs.Exact.{Exact, Named}
+use Rattle.av_build.specs.Canonical.{grow, grown_size, IsTooLarge, IsCanonical}
 use Rattle.av_text.specs.declared.script.Script.{Script}
 use Rattle.av_text.specs.Read.{read}
 use Rattle.av_session.specs.declared.options.Options.{Options}
+use Rattle.av_session.specs.Classes.{Class}
+use Rattle.av_session.specs.declared.solving.Solved.TheVariants.{Settled}
+use Rattle.av_session.specs.declared.reading.TheConstants.{MOST_READ}
 use Rattle.av_session.specs.declared.status.Status.{Status}
 use Rattle.av_session.specs.declared.status.Status.TheVariants as status
 use Rattle.av_session.specs.Options.{options}
 use Rattle.av_print.specs.Text.{◌⊹◌}
 use Rattle.av_print.specs.Systems.{system_text}
-use Rattle.av_print.specs.Laws.{AreNamedByWords}
-use Rattle.av_session.specs.Due.{text_due, settled_header, answer_text}
-use Rattle.av_session.specs.Status.{FitsText, IsWithin}
+use Rattle.av_session.specs.Answers.{answer_text, place_among}
+use Rattle.av_session.specs.Due.{text_due, settled_header}
+use Rattle.av_session.specs.Solved.{solved, status_of}
+use Rattle.av_session.specs.Status.{FitsText}
 use Rattle.av_session.specs.Taken.{TakesAll}
 
 -- the text due where the words of the command line set these options, or aren't accepted
@@ -43,7 +49,7 @@ Fits s words bytes = Fits_of s (options words) bytes
 
 -- the source was read to its end, or as far as a script may reach and one byte more
 abbrev pub IsReadWhole : Option (List ℕ) → Option (List ℕ) → Type 0
-IsReadWhole old new = (bytes : List ℕ) × TakesAll 65537 old new bytes
+IsReadWhole old new = (bytes : List ℕ) × TakesAll MOST_READ old new bytes
 
 -- what was read, by the status
 abbrev pub ReadsWhole : Status → Option (List ℕ) → Option (List ℕ) → Type 0
@@ -59,8 +65,6 @@ pub record IsAbout (script : Script) : Type 0 where
   pub words : AreWords script.basis
   pub minimal_words : IsListOf (IsMinimalIn script.basis) (minimal script.basis)
   pub same_class : (σ : List ℕ) → InClass (minimal script.basis) σ ↔ InClass script.basis σ
-  -- a count is the number of the permutations of that length that avoid the basis
-  pub counted : (n : ℕ) → 1 ≤ n → IsListOf (InClassAt script.basis n) (class_at (minimal script.basis) n)
   -- the header's numbers are those of the simple permutations of the class
   pub simple_words : (m : ℕ) → IsListOf (IsSimpleOf script.basis m) (simples (minimal script.basis) m)
   -- the gap is the least length of which and of the next the class has no simple permutation
@@ -69,32 +73,69 @@ pub record IsAbout (script : Script) : Type 0 where
   -- the tree of a word is its decomposition tree, and there is no other
   pub tree : (σ : List ℕ) → IsWord σ → HasTree σ
 
--- the system of these options and this script, whose class has gap g: its text stands in the text due of the words and the
--- bytes, and it generates the class
-pub record HasSystem (words : List (List ℕ)) (bytes : List ℕ) (o : Options) (script : Script) (g : ℕ) : Type 0 where
-  pub system : System
-  -- the text of the system stands after the header and before the answers
-  pub text : due words bytes ≡ settled_header (minimal script.basis) g ⊹ system_text system ⊹ flat_map (answer_text (minimal script.basis)) script.queries
-  -- no other well-formed system of words has that text
-  pub only : (S : System) → IsWellFormed S → AreNamedByWords S → system_text S ≡ system_text system → S ≡ system
-  -- it is the canonical system of the class, and well formed
-  pub canonical : IsCanonical (minimal script.basis) (simples_below (minimal script.basis) g) o.max_size system
-  pub form : IsWellFormed system
-  -- up to one above the gap, its derivation trees of each size have for values exactly the permutations of that length that
-  -- avoid the basis, each once; and each of its equations generates exactly what its name describes
-  pub exact : ExactUpTo system script.basis (suc g)
-  pub named : NamedUpTo system (suc g)
+-- the canonical system of a class with gap g is within the limit
+abbrev pub IsWithin : List (List ℕ) → ℕ → ℕ → Type 0
+IsWithin basis g limit = grown_size (grow basis (simples_below basis g) limit) ≤ limit
 
--- so wherever the words are accepted, and the bytes are a script of a settled class whose system is within the limit
+-- a word contains one of a list of words, the first such, and here are the places of its first occurrence
+pub record HasBad (basis : List (List ℕ)) (σ : List ℕ) : Type 0 where
+  pub pattern : List ℕ
+  pub first : find (contains σ) basis ≡ Some pattern
+  pub places : List ℕ
+  pub given : first_occurrence σ pattern ≡ Some places
+  pub occurs : OccursAt σ pattern places
+
+-- which of the three a class is, in the words of the textbook
+pub record HasCases (o : Options) (basis : List (List ℕ)) : Type 0 where
+  -- it is settled exactly where it has a gap within the limit of lengths, and its canonical system is within the limit of sizes
+  pub settled : (status_of (solved o (minimal basis)) ≡ status.Done) ↔ ((g : ℕ) × IsLeastGap basis o.max_simple g × IsWithin (minimal basis) g o.max_size)
+  -- its system is too large exactly where it has a gap within the limit of lengths, and that system is above the limit of sizes
+  pub too_large : (status_of (solved o (minimal basis)) ≡ status.TooLarge) ↔ ((g : ℕ) × IsLeastGap basis o.max_simple g × IsTooLarge (minimal basis) (simples_below (minimal basis) g) o.max_size)
+  -- it is unsettled exactly where it has no gap within the limit of lengths
+  pub unsettled : (status_of (solved o (minimal basis)) ≡ status.Unsettled) ↔ ((g : ℕ) → IsGap basis g → suc g ≤ o.max_simple → ⊥)
+
+-- what the answers about a class's members say, in the words of the textbook
+pub record HasAnswers (basis : List (List ℕ)) (class : Class) : Type 0 where
+  -- the list of the members of a length, which lists and draws from, holds each permutation of that length that avoids the basis,
+  -- once, and no other
+  pub listed : (n : ℕ) → 1 ≤ n → IsListOf (InClassAt basis n) (members class.system n)
+  -- a count is how many these are
+  pub counted : (n : ℕ) → count_of class.system n ≡ length (members class.system n)
+  -- a permutation that avoids the basis has a rank, its place in this list
+  pub ranked : (σ : List ℕ) → InClass basis σ → (r : ℕ) × (place_among class.system σ ≡ Some r) × (slice_get (members class.system (length σ)) r ≡ Some σ)
+  -- any other has none, and contains a minimal word of the basis, at the places given
+  pub strange : (σ : List ℕ) → IsWord σ → (InClass basis σ → ⊥) → (place_among class.system σ ≡ None) × HasBad class.found.basis σ
+
+-- the system of these options and this script, whose class is settled: its text stands in the text due of the words and the
+-- bytes, and it generates the class
+pub record HasSystem (words : List (List ℕ)) (bytes : List ℕ) (o : Options) (script : Script) (class : Class) : Type 0 where
+  -- the text of the system stands after the header and before the answers
+  pub text : due words bytes ≡ settled_header class.found class.gap ⊹ system_text class.system ⊹ flat_map (answer_text class) script.queries
+  -- the header speaks of the minimal words of the basis, up to the limit of lengths, and of the gap
+  pub searched : class.found ≡ record { basis = minimal script.basis; limit = o.max_simple }
+  pub gap : IsLeastGap script.basis o.max_simple class.gap
+  -- no other well-formed system of words has that text
+  pub only : (S : System) → IsWellFormed S → AreNamedByWords S → system_text S ≡ system_text class.system → S ≡ class.system
+  -- it is the canonical system of the class, and well formed
+  pub canonical : IsCanonical (minimal script.basis) (simples_below (minimal script.basis) class.gap) o.max_size class.system
+  pub form : IsWellFormed class.system
+  -- its derivation trees of each size have for values exactly the permutations of that length that avoid the basis, each once;
+  -- and each of its equations generates exactly the permutations that its name describes, each once
+  pub exact : Exact class.system script.basis
+  pub named : Named class.system
+  -- so the answers are those of the class
+  pub answers : HasAnswers script.basis class
+
+-- so wherever the words are accepted, and the bytes are a script of a settled class
 abbrev pub WritesSystem : List (List ℕ) → Type 0
 WritesSystem words =
-    (bytes : List ℕ) (o : Options) (script : Script) (g : ℕ) → options words ≡ Some o → read bytes ≡ Ok script
-    → IsSettled (minimal script.basis) o.max_simple g → IsWithin (minimal script.basis) g o.max_size → HasSystem words bytes o script g
+    (bytes : List ℕ) (o : Options) (script : Script) (class : Class) → options words ≡ Some o → read bytes ≡ Ok script
+    → solved o (minimal script.basis) ≡ Settled class → HasSystem words bytes o script class
 
--- accepted words, a script of a settled class whose system is within the limit, and counts of faults that neither rise nor
--- stand at their end leave two statuses: the whole text, or want of memory
+-- accepted words, a script of a settled class, and counts of faults that neither rise nor stand at their end leave two
+-- statuses: the whole text, or want of memory
 abbrev pub IsComplete : Status → Option (List ℕ) → List (List ℕ) → Type 0 → Type 0 → Type 0
 IsComplete s left words read_rose write_rose =
-    (bytes : List ℕ) (o : Options) (script : Script) (g : ℕ) → left ≡ Some bytes → options words ≡ Some o → read bytes ≡ Ok script
-    → IsSettled (minimal script.basis) o.max_simple g → IsWithin (minimal script.basis) g o.max_size
+    (bytes : List ℕ) (o : Options) (script : Script) (class : Class) → left ≡ Some bytes → options words ≡ Some o → read bytes ≡ Ok script
+    → solved o (minimal script.basis) ≡ Settled class
     → (read_rose → ⊥) → (write_rose → ⊥) → (s ≡ status.Done) ⊎ (s ≡ status.Memory)

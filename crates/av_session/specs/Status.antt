@@ -1,15 +1,14 @@
 -- The statuses of a run: when each comes, and what the sink holds then.
-use Rattle.std.specs.Prelude.{ℕ, ◌≤◌, List, Option, Result, Ok, Err}
+use Rattle.std.specs.Prelude.{◌≡◌, ℕ, List, Option, Result, Ok, Err}
 use Rattle.std.specs.Io.KnownBytes.{Appends, Keeps}
 use Rattle.av_perm.specs.Class.{minimal}
-use Rattle.av_perm.specs.Gap.{IsSettled, IsUnsettled, simples_below}
-use Rattle.av_build.specs.Canonical.{grow, grown_size, IsTooLarge}
 use Rattle.av_text.specs.declared.script.Script.{Script}
 use Rattle.av_text.specs.Read.{Fault, read}
 use Rattle.av_print.specs.Wrote.{AppendsPart}
 use Rattle.av_session.specs.declared.options.Options.{Options}
 use Rattle.av_session.specs.declared.status.Status.{Status}
 use Rattle.av_session.specs.declared.status.Status.TheVariants as status
+use Rattle.av_session.specs.Solved.{solved, status_of}
 
 -- what is held beyond what was held before, where this text is due
 abbrev pub HoldsText : Status → Option (List ℕ) → Option (List ℕ) → List ℕ → Type 0
@@ -22,17 +21,11 @@ HoldsText status.Refused old new text = Appends old new text
 HoldsText status.Unsettled old new text = Appends old new text
 HoldsText status.TooLarge old new text = Appends old new text
 
--- the canonical system of a class with gap g is within the limit
-abbrev pub IsWithin : List (List ℕ) → ℕ → ℕ → Type 0
-IsWithin basis g limit = grown_size (grow basis (simples_below basis g) limit) ≤ limit
-
--- the status may come where the source has this script
+-- the status may come where the source has this script: Done, TooLarge and Unsettled exactly by what is known of its class
 abbrev pub FitsScript : Status → Options → Script → Type 0
-FitsScript status.Done options script =
-    (g : ℕ) × IsSettled (minimal script.basis) options.max_simple g × IsWithin (minimal script.basis) g options.max_size
-FitsScript status.TooLarge options script =
-    (g : ℕ) × IsSettled (minimal script.basis) options.max_simple g × IsTooLarge (minimal script.basis) (simples_below (minimal script.basis) g) options.max_size
-FitsScript status.Unsettled options script = IsUnsettled (minimal script.basis) options.max_simple
+FitsScript status.Done options script = status_of (solved options (minimal script.basis)) ≡ status.Done
+FitsScript status.TooLarge options script = status_of (solved options (minimal script.basis)) ≡ status.TooLarge
+FitsScript status.Unsettled options script = status_of (solved options (minimal script.basis)) ≡ status.Unsettled
 FitsScript status.Refused options script = ⊥
 FitsScript _ options script = Unit {0}
 

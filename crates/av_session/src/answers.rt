@@ -1,66 +1,209 @@
 // The answers of the queries.
-ghost use Rattle.std.specs.Prelude.{◌≡◌, ◌≤◌, OnOk, IsErrOf, length, All, flat_map};
+ghost use Rattle.std.specs.Prelude.{◌≡◌, ◌≤◌, IfOk, OnOk, IsErrOf, All, flat_map, codes};
 ghost use Rattle.std.specs.Io.KnownBytes.{Appends};
 ghost use Rattle.av_io.specs.Causes.{Rose};
 ghost use Rattle.av_print.specs.Wrote.{AppendsPart};
-ghost use Rattle.av_perm.specs.Class.{class_at};
-ghost use Rattle.av_text.specs.Ranges.{IsInRange};
-ghost use Rattle.av_session.specs.Due.{answer_text};
+ghost use Rattle.av_print.specs.Text.{◌⊹◌, query_text};
+ghost use Rattle.av_text.specs.Queries.{IsInRange};
+ghost use Rattle.av_session.specs.Answers.{one_line, counts_text, rows_text, answer_text, length_needed};
+ghost use Rattle.av_session.specs.Serving.{Serves};
 
+use crate::members::{CountsTo, Rows, member_count};
+use crate::ranks::{place_of, word_at};
+use crate::solving::SettledClass;
 use crate::stop::Stop;
+use av_count::Table;
 use av_decomp::tree;
-use av_io::Sink;
-use av_match::avoids_all;
-use av_perm::{Lex, Words};
-use av_print::{Bytes, Number, Text};
+use av_io::{Sink, SureSink};
+use av_perm::Memory;
+use av_print::{Bytes, Text};
 use av_text::{Queries, Query};
 use std::alloc::Global;
 
-/// How many words of length n, from 1 to 7, the class has.
-fn class_size(basis: &Words, n: u8) -> u64
-    requires some { 1 ≤ n }
-    requires few { n ≤ 7 }
-    ensures { result ≡ length (class_at basis.now n) }
+/// The greatest length at which a query asks of the members of the class; 0 for the tree of a word.
+fn length_needed(query: &Query) -> usize
+    requires { IsInRange query.now }
+    ensures value { result ≡ length_needed query.now }
+    ensures few { result ≤ 160 }
 {
-    let mut count: u64 = 0;
-    for word in Lex::new(usize::from(n)) {
-        if avoids_all(&word, basis) {
-            count += 1;
-        }
+    match query {
+        Query::Count { n } | Query::Counts { n } => usize::from(*n),
+        Query::List { n, .. } | Query::Unrank { n, .. } => usize::from(*n),
+        Query::Rank { word } => word.len(),
+        Query::Tree { .. } => 0,
     }
-    count
 }
 
-/// Writes the answer of a query about the class.
-#[tactic(auto, unfolding(crate::specs::Due::answer_text))]
+/// The greatest length that a query needs; 0 where none needs any.
+fn greatest_needed(queries: &Queries) -> usize
+    ensures all { All (λ q. length_needed q ≤ result) queries.now }
+    ensures few { result ≤ 160 }
+{
+    let mut greatest: usize = 0;
+    for query in queries.as_slice() {
+        greatest = greatest.max(length_needed(query));
+    }
+    greatest
+}
+
+/// The numbers of the members of the class up to the greatest length that a query needs, where one needs any.
+fn table_for(
+    alloc: Global,
+    class: &SettledClass,
+    queries: &Queries,
+) -> Result<Option<Table>, Memory>
+    ensures { IfOk result (λ table. All (λ q. Serves class.now.system (length_needed q) table) queries.now) }
+{
+    match greatest_needed(queries) {
+        0 => Ok(None),
+        n => Ok(Some(Table::new(alloc, class.system(), n)?)),
+    }
+}
+
+/// The table, where a length of at least 1 is needed.
+fn needed<'a>(class: &SettledClass, table: &'a Option<Table>, n: usize) -> &'a Table
+    requires serves { Serves class.now.system n table.now }
+    requires some { 1 ≤ n }
+    ensures system { result.now.system ≡ class.now.system }
+    ensures largest { n ≤ result.now.largest }
+{
+    match table {
+        Some(table) => table,
+        None => unreachable!(),
+    }
+}
+
+/// Writes an answer of one line.
+fn put_line<K: Sink, T: Text>(sink: &mut K, query: &Query, answer: &T) -> Result<(), Stop>
+    ensures whole { OnOk result (Appends (K.held sink.old) (K.held sink.new) (one_line query.now (T.text answer.now))) }
+    ensures part { AppendsPart (K.held sink.old) (K.held sink.new) (one_line query.now (T.text answer.now)) }
+    ensures later { K.faults sink.old ≤ K.faults sink.new }
+    ensures failed { IsErrOf result Stop.WriteFault → Rose (K.faults sink.old) (K.faults sink.new) }
+{
+    (query, Bytes(b" = "), answer, Bytes(b"\n")).put_on(sink)?;
+    Ok(())
+}
+
+/// Writes the answer of `counts`: the query, and the number of the members of each length up to n.
+#[tactic(auto, using(av_print::proofs::Written::written))]
+fn put_all_counts<K: Sink>(
+    sink: &mut K,
+    class: &SettledClass,
+    table: &Table,
+    query: &Query,
+    n: usize,
+) -> Result<(), Stop>
+    requires stands { table.now.system ≡ class.now.system }
+    requires most { n ≤ table.now.largest }
+    ensures whole { OnOk result (Appends (K.held sink.old) (K.held sink.new) (query_text query.now ⊹ codes " =" ⊹ counts_text class.now.system n ⊹ codes "\n")) }
+    ensures part { AppendsPart (K.held sink.old) (K.held sink.new) (query_text query.now ⊹ codes " =" ⊹ counts_text class.now.system n ⊹ codes "\n") }
+    ensures later { K.faults sink.old ≤ K.faults sink.new }
+    ensures failed { IsErrOf result Stop.WriteFault → Rose (K.faults sink.old) (K.faults sink.new) }
+{
+    let counts = CountsTo { table, largest: n };
+    (query, Bytes(b" ="), counts, Bytes(b"\n")).put_on(sink)?;
+    Ok(())
+}
+
+/// Writes the answer of `list`: the query, the lines of the members, and `end`.
+fn put_list<K: Sink>(
+    sink: &mut K,
+    class: &SettledClass,
+    table: &Table,
+    query: &Query,
+    n: usize,
+    start: u128,
+    many: u32,
+) -> Result<(), Stop>
+    requires stands { table.now.system ≡ class.now.system }
+    requires least { 1 ≤ n }
+    requires most { n ≤ table.now.largest }
+    ensures whole { OnOk result (Appends (K.held sink.old) (K.held sink.new) (query_text query.now ⊹ codes " =\n" ⊹ rows_text class.now.system n start many ⊹ codes "end\n")) }
+    ensures part { AppendsPart (K.held sink.old) (K.held sink.new) (query_text query.now ⊹ codes " =\n" ⊹ rows_text class.now.system n start many ⊹ codes "end\n") }
+    ensures later { K.faults sink.old ≤ K.faults sink.new }
+    ensures failed { IsErrOf result Stop.WriteFault → Rose (K.faults sink.old) (K.faults sink.new) }
+{
+    let rows = Rows {
+        system: class.system(),
+        table,
+        n,
+        start,
+        many,
+    };
+    (query, Bytes(b" =\n"), rows, Bytes(b"end\n")).put_on(sink)?;
+    Ok(())
+}
+
+/// Writes the answer of a query about a settled class, with a table that serves it.
+#[tactic(auto, unfolding(crate::specs::Answers::answer_text))]
 fn put_answer<K: Sink>(
     alloc: Global,
     sink: &mut K,
-    basis: &Words,
+    class: &SettledClass,
+    table: &Option<Table>,
     query: &Query,
 ) -> Result<(), Stop>
-    requires { IsInRange query.now }
-    ensures whole { OnOk result (Appends (K.held sink.old) (K.held sink.new) (answer_text basis.now query.now)) }
-    ensures part { AppendsPart (K.held sink.old) (K.held sink.new) (answer_text basis.now query.now) }
+    requires range { IsInRange query.now }
+    requires serves { Serves class.now.system (length_needed query.now) table.now }
+    ensures whole { OnOk result (Appends (K.held sink.old) (K.held sink.new) (answer_text class.now query.now)) }
+    ensures part { AppendsPart (K.held sink.old) (K.held sink.new) (answer_text class.now query.now) }
     ensures later { K.faults sink.old ≤ K.faults sink.new }
     ensures failed { IsErrOf result Stop.WriteFault → Rose (K.faults sink.old) (K.faults sink.new) }
 {
     match query {
         Query::Count { n } => {
-            let count = class_size(basis, *n);
-            (
+            let n = usize::from(*n);
+            put_line(sink, query, &member_count(needed(class, table, n), n))
+        }
+        Query::Counts { n } => {
+            let n = usize::from(*n);
+            put_all_counts(sink, class, needed(class, table, n), query, n)
+        }
+        Query::List { n, start, many } => {
+            let n = usize::from(*n);
+            put_list(
+                sink,
+                class,
+                needed(class, table, n),
                 query,
-                Bytes(b" = "),
-                Number(u128::from(count)),
-                Bytes(b"\n"),
+                n,
+                *start,
+                *many,
             )
-                .put_on(sink)?;
         }
-        Query::Tree { word } => {
-            let tree = tree(alloc, word)?;
-            (query, Bytes(b" = "), &tree, Bytes(b"\n")).put_on(sink)?;
+        Query::Unrank { n, r } => {
+            let n = usize::from(*n);
+            put_line(sink, query, &word_at(class, needed(class, table, n), n, *r))
         }
+        Query::Rank { word } => {
+            let table = needed(class, table, word.len());
+            put_line(sink, query, &place_of(class, table, word))
+        }
+        Query::Tree { word } => put_line(sink, query, &tree(alloc, word)?),
     }
+}
+
+/// Writes the answers of the queries in order, with a table that serves them. They wait in memory until they make a large
+/// piece.
+fn put_each<K: Sink>(
+    alloc: Global,
+    sink: &mut K,
+    class: &SettledClass,
+    table: &Option<Table>,
+    queries: &Queries,
+) -> Result<(), Stop>
+    requires { All (λ q. Serves class.now.system (length_needed q) table.now) queries.now }
+    ensures whole { OnOk result (Appends (K.held sink.old) (K.held sink.new) (flat_map (answer_text class.now) queries.now)) }
+    ensures part { AppendsPart (K.held sink.old) (K.held sink.new) (flat_map (answer_text class.now) queries.now) }
+    ensures later { K.faults sink.old ≤ K.faults sink.new }
+    ensures failed { IsErrOf result Stop.WriteFault → Rose (K.faults sink.old) (K.faults sink.new) }
+{
+    let mut waiting = SureSink::new(alloc);
+    for query in queries.as_slice() {
+        put_answer(alloc, &mut waiting, class, table, query)?;
+        waiting.pass_on_large(sink)?;
+    }
+    waiting.pass_on(sink)?;
     Ok(())
 }
 
@@ -68,17 +211,14 @@ fn put_answer<K: Sink>(
 pub fn put_answers<K: Sink>(
     alloc: Global,
     sink: &mut K,
-    basis: &Words,
+    class: &SettledClass,
     queries: &Queries,
 ) -> Result<(), Stop>
-    requires { All IsInRange queries.now }
-    ensures whole { OnOk result (Appends (K.held sink.old) (K.held sink.new) (flat_map (answer_text basis.now) queries.now)) }
-    ensures part { AppendsPart (K.held sink.old) (K.held sink.new) (flat_map (answer_text basis.now) queries.now) }
+    ensures whole { OnOk result (Appends (K.held sink.old) (K.held sink.new) (flat_map (answer_text class.now) queries.now)) }
+    ensures part { AppendsPart (K.held sink.old) (K.held sink.new) (flat_map (answer_text class.now) queries.now) }
     ensures later { K.faults sink.old ≤ K.faults sink.new }
     ensures failed { IsErrOf result Stop.WriteFault → Rose (K.faults sink.old) (K.faults sink.new) }
 {
-    for query in queries.as_slice() {
-        put_answer(alloc, sink, basis, query)?;
-    }
-    Ok(())
+    let table = table_for(alloc, class, queries)?;
+    put_each(alloc, sink, class, &table, queries)
 }

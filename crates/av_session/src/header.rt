@@ -48,10 +48,9 @@ pub struct Header<'a> {
 }
 
 impl Text for Header<'_> {
-    ghost use Rattle.av_simple.specs.Searched.{last_of};
     ghost use Rattle.av_session.specs.Due.{header_text};
 
-    ghost text = { λ header. header_text header.found.now.basis (last_of header.found.now) };
+    ghost text = { λ header. header_text header.found.now };
 
     #[tactic(auto, unfolding(crate::specs::Due::header_text))]
     fn put_on<K: Sink>(&self, sink: &mut K) -> Result<(), SinkFault> {

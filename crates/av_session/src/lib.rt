@@ -6,15 +6,20 @@
 
 mod answers;
 mod header;
+mod members;
 mod options;
+mod ranks;
 mod reading;
 mod session;
+mod solving;
 mod status;
 mod stop;
 #[cfg(test)]
 mod tests;
+mod texts;
 mod top;
 
 pub use options::{Options, WordsError, read_words};
+pub use solving::{SettledClass, Solved, solve};
 pub use status::Status;
 pub use top::run;

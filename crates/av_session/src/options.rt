@@ -1,10 +1,25 @@
 // The words of the command line.
 ghost use Rattle.std.specs.Prelude.{◌≡◌, ℕ, ◌≤◌, ◌<◌, List, map, string_bytes, length, IfOk, IfSome, MatchOption, Some, None};
 ghost use Rattle.std.specs.List.{position};
-ghost use Rattle.av_session.specs.Options.{is_equals, cut, set_once, choose_max_simple, choose_max_size, choose, choose_all, nothing_chosen, with_defaults, options, AreInRanges, GivesOptions};
+ghost use Rattle.av_session.specs.Options.{is_equals, cut, set_once, choose_max_simple, choose_max_size, choose, choose_all, nothing_chosen, with_defaults, options, AreInRanges, IsAllowed, GivesOptions};
 
 use av_text::number_in;
 use std::alloc::Global;
+
+/// The least limit of the lengths at which simple words are searched.
+pub const LEAST_MAX_SIMPLE: usize = 5;
+
+/// The greatest limit of these lengths.
+pub const GREATEST_MAX_SIMPLE: usize = 10;
+
+/// The limit of these lengths where no word sets it.
+pub const DEFAULT_MAX_SIMPLE: usize = 8;
+
+/// The greatest limit of the size of a system, its equations and terms together. The least is 1.
+pub const GREATEST_MAX_SIZE: usize = 65_536;
+
+/// The limit of the size where no word sets it.
+pub const DEFAULT_MAX_SIZE: usize = 20_000;
 
 /// What the words of the command line set.
 #[derive(Clone, Copy, Debug, PartialEq, Eq)]
@@ -74,7 +89,12 @@ fn choose_max_simple(chosen: Chosen, value: &[u8]) -> Option<Chosen>
     ensures said { result ≡ choose_max_simple chosen value.now }
     ensures ranges { IfSome result AreInRanges }
 {
-    let limit = set_once(5, 10, chosen.max_simple, value)?;
+    let limit = set_once(
+        LEAST_MAX_SIMPLE,
+        GREATEST_MAX_SIMPLE,
+        chosen.max_simple,
+        value,
+    )?;
     Some(Chosen {
         max_simple: Some(limit),
         ..chosen
@@ -87,7 +107,7 @@ fn choose_max_size(chosen: Chosen, value: &[u8]) -> Option<Chosen>
     ensures said { result ≡ choose_max_size chosen value.now }
     ensures ranges { IfSome result AreInRanges }
 {
-    let limit = set_once(1, 65536, chosen.max_size, value)?;
+    let limit = set_once(1, GREATEST_MAX_SIZE, chosen.max_size, value)?;
     Some(Chosen {
         max_size: Some(limit),
         ..chosen
@@ -135,14 +155,11 @@ fn choose_all(chosen: Chosen, words: &[String]) -> Option<Chosen>
 fn with_defaults(chosen: Chosen) -> Options
     requires { AreInRanges chosen }
     ensures said { result ≡ with_defaults chosen }
-    ensures low { 5 ≤ result.max_simple }
-    ensures high { result.max_simple ≤ 10 }
-    ensures size_low { 1 ≤ result.max_size }
-    ensures size_high { result.max_size ≤ 65536 }
+    ensures allowed { IsAllowed result }
 {
     Options {
-        max_simple: chosen.max_simple.unwrap_or(8),
-        max_size: chosen.max_size.unwrap_or(20000),
+        max_simple: chosen.max_simple.unwrap_or(DEFAULT_MAX_SIMPLE),
+        max_size: chosen.max_size.unwrap_or(DEFAULT_MAX_SIZE),
     }
 }
 
@@ -152,10 +169,7 @@ fn with_defaults(chosen: Chosen) -> Options
 #[tactic(auto, unfolding(crate::specs::Options::options))]
 pub fn read_words(_alloc: Global, words: &[String]) -> Result<Options, WordsError>
     ensures said { GivesOptions result (options (map string_bytes words.now)) }
-    ensures low { IfOk result (λ options. 5 ≤ options.max_simple) }
-    ensures high { IfOk result (λ options. options.max_simple ≤ 10) }
-    ensures size_low { IfOk result (λ options. 1 ≤ options.max_size) }
-    ensures size_high { IfOk result (λ options. options.max_size ≤ 65536) }
+    ensures allowed { IfOk result IsAllowed }
 {
     let nothing = Chosen {
         max_simple: None,

@@ -14,8 +14,8 @@ pub enum ReadError {
     Failed,
 }
 
-/// One more than the longest text of a script.
-const MOST: usize = 65_537;
+/// The most bytes that are read: one more than the longest script has.
+pub const MOST_READ: usize = 65_537;
 
 /// How many bytes are asked for at once.
 const CHUNK: usize = 4096;
@@ -44,15 +44,15 @@ fn read_some<S: Source>(
 
 /// The bytes of a source up to its end, or the first 65,537 where there are more.
 pub fn read_all<S: Source>(alloc: Global, source: &mut S) -> Result<Vec<u8>, ReadError>
-    ensures taken { IfOk result (λ bytes. TakesAll MOST (S.left source.old) (S.left source.new) bytes.items) }
-    ensures took { TakesUpTo MOST (S.left source.old) (S.left source.new) }
+    ensures taken { IfOk result (λ bytes. TakesAll MOST_READ (S.left source.old) (S.left source.new) bytes.items) }
+    ensures took { TakesUpTo MOST_READ (S.left source.old) (S.left source.new) }
     ensures later { S.faults source.old ≤ S.faults source.new }
     ensures failed { IsErrOf result ReadError.Failed → Rose (S.faults source.old) (S.faults source.new) }
 {
     let mut bytes = Vec::new(alloc);
     let mut buffer = [0u8; CHUNK];
-    'reads: while bytes.len() < MOST {
-        let room = (MOST - bytes.len()).min(CHUNK);
+    'reads: while bytes.len() < MOST_READ {
+        let room = (MOST_READ - bytes.len()).min(CHUNK);
         let count = read_some(source, &mut buffer[..room], &mut bytes)?;
         if count == 0 {
             return Ok(bytes);

@@ -1,6 +1,8 @@
 // Whole runs, with sources and sinks in memory: what is written, and how the run ends.
+ghost use Rattle.std.specs.Prelude.{◌≡◌, ◌≤◌, length, None};
+
 use crate::{Options, Status, read_words, run};
-use av_io::{MemSink, MemSource, SureSink, SureSource};
+use av_io::{Failed, MemSink, MemSource, Source, SureSink, SureSource};
 use av_match::minimal;
 use av_perm::{Memory, NotPerm, Perm, Words, is_simple};
 use av_simple::{Outcome, search};
@@ -50,7 +52,105 @@ fn run_script(alloc: Global, options: &[&str], script: &[u8]) -> Result<Ended, A
     Ok(Ended { status, held })
 }
 
-static ANSWERED: [(&str, Status, &str); 9] = [
+// What the second read of a source does.
+#[derive(Clone, Copy, Drop)]
+enum Second {
+    Fails,
+    Ends,
+}
+
+// A source that gives the basis line of 132 at its first read and at each from the third on.
+#[derive(Drop)]
+struct Resuming {
+    second: Second,
+    calls: u64,
+}
+
+impl Resuming {
+    fn new(second: Second) -> Resuming {
+        Resuming { second, calls: 0 }
+    }
+}
+
+impl Source for Resuming {
+    ghost left = { λ _. None };
+
+    ghost faults = { λ s. s.calls };
+
+    fn read(&mut self, buf: &mut [u8]) -> Result<usize, Failed> {
+        self.calls = self.calls.saturating_add(1);
+        match (self.calls, self.second) {
+            (2, Second::Fails) => Err(Failed),
+            (2, Second::Ends) => Ok(0),
+            _ => Ok(copy_front(b"basis 132\n", buf)),
+        }
+    }
+}
+
+// Copies as many bytes as there is room for.
+fn copy_front(bytes: &[u8], buf: &mut [u8]) -> usize
+    ensures within { result ≤ length buf.new }
+    ensures long { length buf.new ≡ length buf.old }
+{
+    let count = bytes.len().min(buf.len());
+    buf[..count].copy_from_slice(&bytes[..count]);
+    count
+}
+
+static ANSWERED: [(&str, Status, &str); 11] = [
+    (
+        "basis 132\nlist 3\nlist 3 from 3 for 9\nlist 3 from 5\nrank 231\nrank 132\nunrank 3 4\nunrank 3 5\n",
+        Status::Done,
+        "permspec 1
+basis 132
+simples 4:0 5:0
+gap 4
+system 1 equations 5 terms 10
+E0 C avoid 132 require none = 1 | 12[E1,E2] | 21[E3,E0]
+E1 P avoid 132 require none = 1 | 21[E3,E0]
+E2 C avoid 21 require none = 1 | 12[E4,E2]
+E3 M avoid 132 require none = 1 | 12[E1,E2]
+E4 P avoid 21 require none = 1
+end
+list 3 from 0 for 1000 =
+0 123
+1 213
+2 312
+3 321
+4 231
+end
+list 3 from 3 for 9 =
+3 321
+4 231
+end
+list 3 from 5 for 1000 =
+end
+rank 231 = 4
+rank 132 = no 132 at 1 2 3
+unrank 3 4 = 231
+unrank 3 5 = none of 5
+",
+    ),
+    (
+        "basis 123 132\ncounts 4\ncount 128\ncount 129\n",
+        Status::Done,
+        "permspec 1
+basis 123 132
+simples 4:0 5:0
+gap 4
+system 1 equations 6 terms 11
+E0 C avoid 123 132 require none = 1 | 12[E1,E2] | 21[E3,E0]
+E1 P avoid 12 require none = 1 | 21[E4,E5]
+E2 C avoid 12 21 require none = 1
+E3 M avoid 123 132 require none = 1 | 12[E1,E2]
+E4 M avoid 12 require none = 1
+E5 C avoid 12 require none = 1 | 21[E4,E5]
+end
+counts 4 = 1 2 4 8
+count 128 = 170141183460469231731687303715884105728
+count 129 = over
+",
+    ),
     (
         "basis 132\r\n\r\n# Catalan\r\ncount 3",
         Status::Done,
@@ -150,7 +250,7 @@ tree 213 = 12[21[1,1],1]
 tree 261453 = 2413[1,1,1,21[12[1,1],1]]
 ",
     ),
-    ("basis 132\ncount 8\n", Status::Refused, "fault 2 7\n"),
+    ("basis 132\ncount 161\n", Status::Refused, "fault 2 7\n"),
     ("", Status::Refused, "fault 0 1\n"),
 ];
 
@@ -321,14 +421,43 @@ fn sources_may_fail_or_give_a_byte_a_call(rt: HostRuntime) -> Result<(), Fail> {
     Ok(())
 }
 
+// The second read of a source fails: nothing is written, and there is no third read.
 #[test]
-fn a_sink_that_fails_holds_a_prefix(rt: HostRuntime) -> Result<(), Fail> {
+fn the_first_read_that_fails_ends_the_run(rt: HostRuntime) -> Result<(), Fail> {
     let alloc = rt.alloc();
-    let mut source = SureSource::new(Vec::from_slice(alloc, CATALAN)?);
-    let mut sink = MemSink::new(alloc, 1, vec![in alloc; 3]?);
+    let mut source = Resuming::new(Second::Fails);
+    let mut sink = SureSink::new(alloc);
     let status = run(alloc, &[], &mut source, &mut sink);
-    assert!(rt; status == Status::WriteFault);
-    assert!(rt; sink.bytes() == b"pe".as_slice());
+    assert!(rt; status == Status::ReadFault);
+    assert!(rt; sink.bytes().is_empty());
+    assert_eq!(rt; source.calls, 2);
+    Ok(())
+}
+
+// A source would give more after its end: it isn't read any more.
+#[test]
+fn the_first_read_that_gives_none_ends_the_reading(rt: HostRuntime) -> Result<(), Fail> {
+    let alloc = rt.alloc();
+    let mut source = Resuming::new(Second::Ends);
+    let mut sink = SureSink::new(alloc);
+    let status = run(alloc, &[], &mut source, &mut sink);
+    assert!(rt; status == Status::Done);
+    assert!(rt; sink.bytes() == &CATALAN_ANSWER[..CATALAN_ANSWER.len() - 14]);
+    assert_eq!(rt; source.calls, 2);
+    Ok(())
+}
+
+// A sink of one byte a call whose call c fails holds the first c - 1 bytes.
+#[test]
+fn a_sink_that_fails_holds_what_it_took(rt: HostRuntime) -> Result<(), Fail> {
+    let alloc = rt.alloc();
+    for call in 1..CATALAN_ANSWER.len() + 1 {
+        let mut source = SureSource::new(Vec::from_slice(alloc, CATALAN)?);
+        let mut sink = MemSink::new(alloc, 1, vec![in alloc; call as u64]?);
+        let status = run(alloc, &[], &mut source, &mut sink);
+        assert!(rt; status == Status::WriteFault, "{call}");
+        assert!(rt; sink.bytes() == &CATALAN_ANSWER[..call - 1], "{call}");
+    }
     Ok(())
 }
 

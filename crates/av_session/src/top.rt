@@ -8,10 +8,10 @@ ghost use Rattle.av_session.specs.Options.{options, IsAllowed};
 ghost use Rattle.av_session.specs.Taken.{TakesUpTo};
 ghost use Rattle.av_session.specs.Status.{HoldsText, FitsText};
 ghost use Rattle.av_session.specs.Due.{text_due};
-ghost use Rattle.av_session.specs.Runs.{due, Fits, ReadsWhole, IsComplete, IsAbout, WritesSystem};
+ghost use Rattle.av_session.specs.Runs.{due, Fits, ReadsWhole, IsComplete, IsAbout, HasCases, WritesSystem};
 
 use crate::options::{Options, WordsError, read_words};
-use crate::reading::{ReadError, read_all};
+use crate::reading::{MOST_READ, ReadError, read_all};
 use crate::session::answer;
 use crate::status::Status;
 use av_io::{Sink, Source};
@@ -31,7 +31,7 @@ fn run_with<S: Source, K: Sink>(
     ensures fits { IfSome (S.left source.old) (λ bytes. FitsText result options.now bytes) }
     ensures text { IfSome (S.left source.old) (λ bytes. HoldsText result (K.held sink.old) (K.held sink.new) (text_due options.now bytes)) }
     ensures unwritten { result ≡ Status.ReadFault → sink.new ≡ sink.old }
-    ensures took { TakesUpTo 65537 (S.left source.old) (S.left source.new) }
+    ensures took { TakesUpTo MOST_READ (S.left source.old) (S.left source.new) }
     ensures input { ReadsWhole result (S.left source.old) (S.left source.new) }
     ensures source_later { S.faults source.old ≤ S.faults source.new }
     ensures sink_later { K.faults sink.old ≤ K.faults sink.new }
@@ -49,8 +49,8 @@ fn run_with<S: Source, K: Sink>(
 /// other than `Memory` has its cause: the words (`Words`), a count of faults that rose in this call or stands at its
 /// last value (`ReadFault`, `WriteFault`), the bytes (`Refused`, `Unsettled`, `TooLarge`). `Memory` is free.
 ///
-/// Where the text due has a system, the values of its derivation trees of each size up to one above the gap are exactly the
-/// permutations of that length that avoid the basis, each once (`exact`).
+/// Where the text due has a system, the values of its derivation trees of each size are exactly the permutations of that
+/// length that avoid the basis, each once (`exact`), and the answers are those of the class.
 pub fn run<S: Source, K: Sink>(
     alloc: Global,
     words: &[String],
@@ -68,8 +68,9 @@ pub fn run<S: Source, K: Sink>(
     ensures text { IfSome (S.left source.old) (λ bytes. HoldsText result (K.held sink.old) (K.held sink.new) (due (map string_bytes words.now) bytes)) }
     ensures unread { result ≡ Status.Words → source.new ≡ source.old }
     ensures unwritten { result ≡ Status.Words → sink.new ≡ sink.old }
+    ensures unwritten_words { options (map string_bytes words.now) ≡ None → sink.new ≡ sink.old }
     ensures unwritten_fault { result ≡ Status.ReadFault → sink.new ≡ sink.old }
-    ensures took { TakesUpTo 65537 (S.left source.old) (S.left source.new) }
+    ensures took { TakesUpTo MOST_READ (S.left source.old) (S.left source.new) }
     ensures input { ReadsWhole result (S.left source.old) (S.left source.new) }
     ensures source_later { S.faults source.old ≤ S.faults source.new }
     ensures sink_later { K.faults sink.old ≤ K.faults sink.new }
@@ -77,6 +78,7 @@ pub fn run<S: Source, K: Sink>(
 
     // What the text says, in the words of the textbook.
     ensures about { (bytes : List ℕ) (script : Script) → read bytes ≡ Ok script → IsAbout script }
+    ensures cases { (bytes : List ℕ) (o : Options) (script : Script) → read bytes ≡ Ok script → HasCases o script.basis }
     ensures exact { WritesSystem (map string_bytes words.now) }
 {
     match read_words(alloc, words) {

@@ -1,6 +1,6 @@
 -- The words of the command line set the options, and each script is about its basis.
 use Rattle.std.proofs.Common.{sym}
-use Rattle.av_session.proofs.Abouts.{about}
+use Rattle.av_session.proofs.Abouts.{about, cases}
 use Rattle.av_session.proofs.Systems.{writes_system}
 use Rattle.av_session.proofs.Wholes.{due_text, due_fits, no_options_fits, memory_fits_all, complete_by}
 use Rattle.av_session.proofs.top.run.Goals as goal
@@ -39,3 +39,12 @@ returns-in-Err-Words-clause-exact g c = writes_system _
 
 pub returns-in-Err-Memory-clause-exact : goal.returns-in-Err-Memory-clause-exact
 returns-in-Err-Memory-clause-exact g c = writes_system _
+
+pub returns-in-Ok-clause-cases : goal.returns-in-Ok-clause-cases
+returns-in-Ok-clause-cases g c bytes o script e = cases o bytes script e
+
+pub returns-in-Err-Words-clause-cases : goal.returns-in-Err-Words-clause-cases
+returns-in-Err-Words-clause-cases g c bytes o script e = cases o bytes script e
+
+pub returns-in-Err-Memory-clause-cases : goal.returns-in-Err-Memory-clause-cases
+returns-in-Err-Memory-clause-cases g c bytes o script e = cases o bytes script e

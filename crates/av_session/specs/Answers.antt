@@ -1,0 +1,88 @@
+-- The answers of the queries about a settled class.
+use Rattle.std.specs.Prelude.{◌≡◌, ℕ, suc, ◌^◌, ◌≤◌, List, [], ◌∷◌, length, take, drop, flat_map, find, slice_get, nat_lt, if◌then◌else◌, Option, Some, None, codes, decimal}
+use Rattle.std.specs.List.{position}
+use Rattle.av_perm.specs.Lists.{same, counting}
+use Rattle.av_perm.specs.Contain.{contains, first_occurrence}
+use Rattle.av_decomp.specs.Trees.{dec}
+use Rattle.av_sys.specs.declared.terms.System.{System}
+use Rattle.av_sys.specs.TreeLists.{members, count_of}
+use Rattle.av_count.specs.declared.count.Count.{Count}
+use Rattle.av_count.specs.Counts.{capped}
+use Rattle.av_text.specs.declared.queries.Query.{Query}
+use Rattle.av_text.specs.declared.queries.Query.TheVariants as query
+use Rattle.av_print.specs.Text.{◌⊹◌, word_text, places_text, ranked_text, count_text, query_text, tree_text}
+use Rattle.av_session.specs.Classes.{Class}
+
+-- an answer of one line: the query, and what is answered
+abbrev pub one_line : Query → List ℕ → List ℕ
+one_line q text = query_text q ⊹ codes " = " ⊹ text ⊹ codes "\n"
+
+-- how many members of a length there are, over from 2 ^ 128 on
+abbrev pub member_count : System → ℕ → Count
+member_count S n = capped (count_of S n)
+
+-- that number after a space, and those of the lengths from 1 to n
+abbrev pub spaced_count : System → ℕ → List ℕ
+spaced_count S m = codes " " ⊹ count_text (member_count S m)
+
+abbrev pub counts_text : System → ℕ → List ℕ
+counts_text S n = flat_map (spaced_count S) (counting 1 n)
+
+-- words with their ranks, from rank r on, as far as ranks are below 2 ^ 128
+abbrev pub ranked_from : ℕ → List (List ℕ) → List (ℕ × List ℕ)
+ranked_from r [] = []
+ranked_from r (w ∷ ws) = if nat_lt r (2 ^ 128) then (r, w) ∷ ranked_from (suc r) ws else []
+
+-- the line of a member with its rank
+abbrev pub row_text : ℕ × List ℕ → List ℕ
+row_text row = ranked_text row.0 row.1
+
+-- the lines of the members of length n from rank r on, at most k of them
+unfoldable pub rows_text : System → ℕ → ℕ → ℕ → List ℕ
+rows_text S n r k = flat_map row_text (take k (ranked_from r (drop r (members S n))))
+
+-- the member at a rank, or how many members there are
+abbrev pub unranked_text : Count → Option (List ℕ) → List ℕ
+unranked_text count (Some w) = word_text w
+unranked_text count None = codes "none of " ⊹ count_text count
+
+-- the places of an occurrence
+abbrev pub occurrence_text : Option (List ℕ) → List ℕ
+occurrence_text (Some places) = places_text places
+occurrence_text None = []
+
+-- the word of the basis that a word contains, and where it does first
+abbrev pub bad_text : List ℕ → Option (List ℕ) → List ℕ
+bad_text w (Some b) = codes "no " ⊹ word_text b ⊹ codes " at " ⊹ occurrence_text (first_occurrence w b)
+bad_text w None = []
+
+-- a rank below 2 ^ 128, or that it is greater
+abbrev pub rank_text : ℕ → List ℕ
+rank_text r = if nat_lt r (2 ^ 128) then decimal r else codes "big"
+
+-- the rank of a word, its place among the members of its length; or the first word of the basis that it contains
+abbrev pub place_text : Class → List ℕ → Option ℕ → List ℕ
+place_text class w (Some r) = rank_text r
+place_text class w None = bad_text w (find (contains w) class.found.basis)
+
+-- the place of a word among the members of its length
+abbrev pub place_among : System → List ℕ → Option ℕ
+place_among S w = position (same w) (members S (length w))
+
+-- the answer of a query
+unfoldable pub answer_text : Class → Query → List ℕ
+answer_text class (query.Count n) = one_line (query.Count n) (count_text (member_count class.system n))
+answer_text class (query.Counts n) = query_text (query.Counts n) ⊹ codes " =" ⊹ counts_text class.system n ⊹ codes "\n"
+answer_text class (query.List n r k) = query_text (query.List n r k) ⊹ codes " =\n" ⊹ rows_text class.system n r k ⊹ codes "end\n"
+answer_text class (query.Unrank n r) = one_line (query.Unrank n r) (unranked_text (member_count class.system n) (slice_get (members class.system n) r))
+answer_text class (query.Rank w) = one_line (query.Rank w) (place_text class w (place_among class.system w))
+answer_text class (query.Tree w) = one_line (query.Tree w) (tree_text (dec w))
+
+-- the greatest length at which a query asks of the members; none for the tree of a word
+abbrev pub length_needed : Query → ℕ
+length_needed (query.Count n) = n
+length_needed (query.Counts n) = n
+length_needed (query.List n r k) = n
+length_needed (query.Unrank n r) = n
+length_needed (query.Rank w) = length w
+length_needed (query.Tree w) = 0
