@@ -15,6 +15,8 @@ mod solving;
 mod status;
 mod stop;
 #[cfg(test)]
+mod recurrences;
+#[cfg(test)]
 mod tests;
 mod texts;
 mod top;

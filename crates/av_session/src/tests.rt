@@ -37,13 +37,13 @@ fn command_line(alloc: Global, texts: &[&str]) -> Result<Vec<String>, AllocError
 
 // How a run ended, and what its sink holds.
 #[derive(Drop)]
-struct Ended {
-    status: Status,
-    held: Vec<u8>,
+pub struct Ended {
+    pub status: Status,
+    pub held: Vec<u8>,
 }
 
 // Runs over a source and a sink that never fail.
-fn run_script(alloc: Global, options: &[&str], script: &[u8]) -> Result<Ended, AllocError> {
+pub fn run_script(alloc: Global, options: &[&str], script: &[u8]) -> Result<Ended, AllocError> {
     let words = command_line(alloc, options)?;
     let mut source = SureSource::new(Vec::from_slice(alloc, script)?);
     let mut sink = SureSink::new(alloc);

@@ -104,3 +104,47 @@ fn few_simple_words_without_321(rt: HostRuntime) {
         assert_eq!(rt; count(&found, m), wanted, "of length {m}");
     }
 }
+
+// The numbers of simple words of the lengths from 6 to 12, each length from the two below.
+fn extended_to_12(alloc: Global, basis: &Words) -> Result<Vec<usize>, Memory> {
+    let found = search(alloc, basis, 5)?;
+    let _last = found.last();
+    let mut two_below = found.level(4).copy(alloc)?;
+    let mut one_below = found.level(5).copy(alloc)?;
+    let mut numbers = Vec::new(alloc);
+    for n in 6..13 {
+        let level = extend_level(alloc, &two_below, &one_below, basis, n)?;
+        numbers.push(level.len()).map_err(|_| Memory)?;
+        two_below = one_below;
+        one_below = level;
+    }
+    Ok(numbers)
+}
+
+// Whether they are these, for the basis of two words.
+fn are_extended_to(
+    alloc: Global,
+    one: &[u8],
+    other: &[u8],
+    wanted: [usize; 7],
+) -> Result<bool, Memory> {
+    let mut basis = Words::empty(alloc);
+    for entries in [one, other].iter() {
+        if let Ok(word) = Perm::from_entries(entries) {
+            basis.push(word)?;
+        }
+    }
+    Ok(extended_to_12(alloc, &basis)?.as_slice() == wanted.as_slice())
+}
+
+// The numbers come from a plain program that makes the words of each class by length and asks each for its intervals.
+#[test]
+fn settled_classes_to_length_12(rt: HostRuntime) {
+    let alloc = rt.alloc();
+    let short = are_extended_to(alloc, &[1, 2, 3], &[4, 3, 2, 1], [7, 0, 0, 0, 0, 0, 0]);
+    assert!(rt; matches!(short, Ok(true)));
+    let longer = are_extended_to(alloc, &[3, 2, 1], &[1, 2, 3, 4, 5], [7, 14, 33, 0, 0, 0, 0]);
+    assert!(rt; matches!(longer, Ok(true)));
+    let longest = are_extended_to(alloc, &[3, 2, 1], &[2, 3, 1, 4, 5], [7, 10, 7, 2, 0, 0, 0]);
+    assert!(rt; matches!(longest, Ok(true)));
+}
