@@ -1,5 +1,6 @@
 -- The word that a tree of roots stands for, and the decomposition tree of a word.
 use Rattle.std.specs.Prelude.{◌≡◌, ℕ, zero, suc, ◌≤◌, List, [], ◌∷◌, map, length, Option, Some, None}
+use Rattle.av_perm.specs.declared.limits.TheConstants.{MAX_LENGTH}
 use Rattle.av_perm.specs.Relations.{IsWord, block, inflate}
 use Rattle.av_perm.specs.Decompose.{IsRoot}
 use Rattle.av_perm.specs.Parts.{Parts, parts}
@@ -40,11 +41,11 @@ abbrev pub AreFormed : RootTrees → Type 0
 AreFormed none = Unit {0}
 AreFormed (more root blocks others) = Fits root blocks × AreFormed blocks × AreFormed others
 
--- so at each level; a tree has as many points as its word is long, from 1 to 160
+-- so at each level; a tree has as many points as its word is long, from 1 to MAX_LENGTH
 pub record IsFormed (t : RootTree) : Type 0 where
   pub top : Fits t.root t.blocks
   pub below : AreFormed t.blocks
-  pub few : length (value t) ≤ 160
+  pub few : length (value t) ≤ MAX_LENGTH
 
 -- and a number is that of its points
 pub record Keeps (t : RootTree) (n : ℕ) : Type 0 where

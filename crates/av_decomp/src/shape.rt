@@ -8,7 +8,7 @@ ghost use Rattle.av_decomp.specs.Shapes.{IsShapeOf};
 
 use arrayvec::ArrayVec;
 use av_interval::{Span, Spans, maximal_intervals, skew_cut, sum_cut};
-use av_perm::{Perm, pattern_of};
+use av_perm::{MAX_LENGTH, Perm, pattern_of};
 
 /// What a word is: the word 1, or the inflation of a root by the blocks at spans of places, which follow one another.
 #[derive(Drop)]
@@ -79,7 +79,7 @@ fn root_of(word: &Perm, spans: &Spans) -> Perm
     ensures { result ≡ root_at word.now spans.now }
 {
     let _len = word.len();
-    let mut firsts: ArrayVec<u8, 160> = ArrayVec::new();
+    let mut firsts: ArrayVec<u8, MAX_LENGTH> = ArrayVec::new();
     for span in spans.as_slice() {
         firsts.push(word.entry(span.first as usize));
     }

@@ -7,12 +7,12 @@ ghost use Rattle.av_decomp.specs.Trees.{IsFormed, IsTreeOf, value, dec, root_len
 
 use crate::shape::{Shape, block, decompose};
 use arrayvec::ArrayVec;
-use av_perm::{Memory, Perm};
+use av_perm::{MAX_LENGTH, Memory, Perm};
 use std::alloc::Global;
 use std::marker::Model;
 
-/// A tree of roots that stands for a word of at most 160 entries: a single point, or a root with a tree for each of its
-/// entries.
+/// A tree of roots that stands for a word of at most `MAX_LENGTH` entries: a single point, or a root with a tree for each
+/// of its entries.
 #[derive(Drop)]
 pub struct DecTree {
     root: Option<Perm>,
@@ -110,9 +110,9 @@ impl DecTree {
     }
 
     // Appends the entries of the word that the tree stands for, each raised.
-    fn push_value(&self, entries: &mut ArrayVec<u8, 160>, raise: u8)
-        requires room { length entries.old.items + length (value self.now) ≤ 160 }
-        requires low { raise + length (value self.now) ≤ 160 }
+    fn push_value(&self, entries: &mut ArrayVec<u8, MAX_LENGTH>, raise: u8)
+        requires room { length entries.old.items + length (value self.now) ≤ MAX_LENGTH }
+        requires low { raise + length (value self.now) ≤ MAX_LENGTH }
         ensures { entries.new.items ≡ entries.old.items ++ raised raise (value self.now) }
     {
         let Some(root) = &self.root else {
@@ -129,7 +129,7 @@ impl DecTree {
 // How many points the blocks have whose root entry is below that of block i.
 fn lower_points(root: &Perm, blocks: &[DecTree], i: usize) -> u8
     requires count { length blocks.now ≡ length root.now }
-    requires few { sum_by length (map value blocks.now) ≤ 160 }
+    requires few { sum_by length (map value blocks.now) ≤ MAX_LENGTH }
     requires within { i < length root.now }
     ensures { result ≡ below (slice_index root.now i) root.now (map value blocks.now) }
 {

@@ -7,7 +7,7 @@ ghost use Rattle.av_embed.specs.Left.{IsBegun, StandsAt, embeddings_from, embedd
 
 use crate::map::Map;
 use arrayvec::ArrayVec;
-use av_perm::Perm;
+use av_perm::{MAX_PATTERN_LENGTH, MAX_ROOT_LENGTH, Perm};
 use std::marker::Model;
 
 /// The embeddings of a pattern in a root that are left, in lexicographic order as maps. It takes no memory.
@@ -16,7 +16,7 @@ pub struct Embeddings<'a> {
     pattern: &'a Perm,
     root: &'a Perm,
     // The search stands before the maps that begin with these children and go on with the child `from`.
-    children: ArrayVec<u8, 12>,
+    children: ArrayVec<u8, MAX_PATTERN_LENGTH>,
     from: u8,
 }
 
@@ -25,20 +25,21 @@ impl<'a> Model for Embeddings<'a> {
 
     ghost Value = { List (List ℕ) };
 
+    ghost use Rattle.av_perm.specs.declared.limits.TheConstants.{MAX_PATTERN_LENGTH, MAX_ROOT_LENGTH};
     ghost use Rattle.av_embed.specs.Left.{StandsAt, embeddings_from};
 
     ghost view = { λ e. embeddings_from e.root.now e.pattern.now (e.children.items ++ e.from ∷ []) };
 
-    ghost invariant = { λ e. StandsAt e.root.now e.pattern.now e.children.items e.from × (length e.pattern.now ≤ 12) × (length e.root.now ≤ 10) };
+    ghost invariant = { λ e. StandsAt e.root.now e.pattern.now e.children.items e.from × (length e.pattern.now ≤ MAX_PATTERN_LENGTH) × (length e.root.now ≤ MAX_ROOT_LENGTH) };
 }
 
 impl<'a> Embeddings<'a> {
-    /// All embeddings of a pattern of length 1 to 12 in a root of length 2 to 10.
+    /// All embeddings of a pattern of length 1 to `MAX_PATTERN_LENGTH` in a root of length 2 to `MAX_ROOT_LENGTH`.
     pub fn new(pattern: &'a Perm, root: &'a Perm) -> Embeddings<'a>
         requires some { 1 ≤ length pattern.now }
-        requires few { length pattern.now ≤ 12 }
+        requires few { length pattern.now ≤ MAX_PATTERN_LENGTH }
         requires root { 2 ≤ length root.now }
-        requires small { length root.now ≤ 10 }
+        requires small { length root.now ≤ MAX_ROOT_LENGTH }
         ensures { result ≡ embeddings root.entry.now pattern.entry.now }
     {
         Embeddings {
@@ -91,9 +92,14 @@ fn may_go(pattern: &[u8], root: &[u8], children: &[u8], child: u8) -> bool
 
 // Completes the children to the first embedding that begins with them and goes on with a child of at least `from`. Where
 // there is none, the children stay.
-fn complete(pattern: &Perm, root: &Perm, children: &mut ArrayVec<u8, 12>, from: u8) -> bool
-    requires few { length pattern.now ≤ 12 }
-    requires small { length root.now ≤ 10 }
+fn complete(
+    pattern: &Perm,
+    root: &Perm,
+    children: &mut ArrayVec<u8, MAX_PATTERN_LENGTH>,
+    from: u8,
+) -> bool
+    requires few { length pattern.now ≤ MAX_PATTERN_LENGTH }
+    requires small { length root.now ≤ MAX_ROOT_LENGTH }
     requires stands { StandsAt root.now pattern.now children.old.items from }
     ensures whole { result ≡ true → IsEmbedding root.now pattern.now children.new.items }
     ensures found { result ≡ true → embeddings_from root.now pattern.now (children.old.items ++ from ∷ []) ≡ children.new.items ∷ embeddings_after root.now pattern.now children.new.items }
@@ -121,9 +127,14 @@ fn complete(pattern: &Perm, root: &Perm, children: &mut ArrayVec<u8, 12>, from: 
 
 // Moves to the first embedding that doesn't come before the children with the child `from` after them. Where there is
 // none, no children stay.
-fn advance(pattern: &Perm, root: &Perm, children: &mut ArrayVec<u8, 12>, mut from: u8) -> bool
-    requires few { length pattern.now ≤ 12 }
-    requires small { length root.now ≤ 10 }
+fn advance(
+    pattern: &Perm,
+    root: &Perm,
+    children: &mut ArrayVec<u8, MAX_PATTERN_LENGTH>,
+    mut from: u8,
+) -> bool
+    requires few { length pattern.now ≤ MAX_PATTERN_LENGTH }
+    requires small { length root.now ≤ MAX_ROOT_LENGTH }
     requires stands { StandsAt root.now pattern.now children.old.items from }
     ensures whole { result ≡ true → IsEmbedding root.now pattern.now children.new.items }
     ensures found { result ≡ true → embeddings_from root.now pattern.now (children.old.items ++ from ∷ []) ≡ children.new.items ∷ embeddings_after root.now pattern.now children.new.items }

@@ -6,7 +6,7 @@ ghost use Rattle.av_perm.specs.Fibre.{fibre};
 
 use crate::map::Map;
 use arrayvec::ArrayVec;
-use av_perm::{Perm, pattern_of};
+use av_perm::{MAX_LENGTH, Perm, pattern_of};
 
 /// The pattern of the entries at the places that the map sends to a child of at least 1. None exactly where no place
 /// goes there. The map has as many places as the pattern.
@@ -25,7 +25,7 @@ pub fn fibre(pattern: &Perm, map: &Map, child: usize) -> Option<Perm>
 }
 
 // The entries at the places that go to a child.
-fn entries_at(pattern: &Perm, map: &Map, child: usize) -> ArrayVec<u8, 160>
+fn entries_at(pattern: &Perm, map: &Map, child: usize) -> ArrayVec<u8, MAX_LENGTH>
     requires { length map.now ≡ length pattern.now }
     ensures entries { result.items ≡ fibre pattern.now map.now child }
     ensures different { IsTrue (is_distinct result.items) }

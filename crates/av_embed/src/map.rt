@@ -3,12 +3,13 @@ ghost use Rattle.std.specs.Prelude.{◌≡◌, ◌≤◌, length};
 ghost use Rattle.av_perm.specs.Word.{entry};
 
 use arrayvec::ArrayVec;
+use av_perm::MAX_PATTERN_LENGTH;
 use std::marker::Model;
 
 /// The child of a root that each place of a pattern goes to, held in place. Places and children are numbered from 1.
 #[derive(Drop)]
 pub struct Map {
-    children: ArrayVec<u8, 12>,
+    children: ArrayVec<u8, MAX_PATTERN_LENGTH>,
 }
 
 impl Model for Map {
@@ -21,7 +22,7 @@ impl Model for Map {
 
 impl Map {
     // The map with these children.
-    pub(crate) fn of(children: &ArrayVec<u8, 12>) -> Map
+    pub(crate) fn of(children: &ArrayVec<u8, MAX_PATTERN_LENGTH>) -> Map
         ensures { result ≡ children.now.items }
     {
         Map {
@@ -29,10 +30,10 @@ impl Map {
         }
     }
 
-    /// The number of places, at most 12.
+    /// The number of places, at most `MAX_PATTERN_LENGTH`.
     pub fn len(&self) -> usize
         ensures value { result ≡ length self.now }
-        ensures few { length self.now ≤ 12 }
+        ensures few { length self.now ≤ MAX_PATTERN_LENGTH }
     {
         self.children.len()
     }

@@ -2,7 +2,7 @@
 ghost use Rattle.std.specs.Prelude.{◌≡◌, ◌≤◌, length};
 
 use crate::{Embeddings, Map, fibre};
-use av_perm::{Memory, Perm};
+use av_perm::{MAX_PATTERN_LENGTH, MAX_ROOT_LENGTH, Memory, Perm};
 use std::alloc::Global;
 use std::process::Abort;
 
@@ -40,9 +40,9 @@ fn fibre_is(pattern: &Perm, map: &Map, child: usize, entries: &[u8]) -> bool
 // How many embeddings there are.
 fn count(pattern: &Perm, root: &Perm) -> usize
     requires some { 1 ≤ length pattern.now }
-    requires few { length pattern.now ≤ 12 }
+    requires few { length pattern.now ≤ MAX_PATTERN_LENGTH }
     requires root { 2 ≤ length root.now }
-    requires small { length root.now ≤ 10 }
+    requires small { length root.now ≤ MAX_ROOT_LENGTH }
 {
     let mut count: usize = 0;
     for _map in Embeddings::new(pattern, root) {

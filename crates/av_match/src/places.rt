@@ -3,12 +3,13 @@ ghost use Rattle.std.specs.Prelude.{◌≡◌, ◌<◌, ◌≤◌, length, slice
 ghost use Rattle.av_match.specs.Places.{ArePlaces};
 
 use arrayvec::ArrayVec;
+use av_perm::MAX_LENGTH;
 use std::marker::Model;
 
-/// Increasing places of a word, from 1 on: at most 160, held in place.
+/// Increasing places of a word, from 1 on: at most `MAX_LENGTH`, held in place.
 #[derive(Drop)]
 pub struct Places {
-    items: ArrayVec<u8, 160>,
+    items: ArrayVec<u8, MAX_LENGTH>,
 }
 
 impl Model for Places {
@@ -25,17 +26,17 @@ impl Model for Places {
 
 impl Places {
     // The list of these places.
-    pub(crate) fn of(items: ArrayVec<u8, 160>) -> Places
+    pub(crate) fn of(items: ArrayVec<u8, MAX_LENGTH>) -> Places
         requires { ArePlaces items.items }
         ensures { result ≡ items.items }
     {
         Places { items }
     }
 
-    /// The number of places, at most 160.
+    /// The number of places, at most `MAX_LENGTH`.
     pub fn len(&self) -> usize
         ensures value { result ≡ length self.now }
-        ensures few { length self.now ≤ 160 }
+        ensures few { length self.now ≤ MAX_LENGTH }
         ensures places { ArePlaces self.now }
     {
         self.items.len()

@@ -6,7 +6,7 @@ ghost use Rattle.av_match.specs.Search.{completed, places_from, IsBegun, IsWhole
 
 use crate::places::Places;
 use arrayvec::ArrayVec;
-use av_perm::Perm;
+use av_perm::{MAX_LENGTH, Perm};
 
 // The entries from `least` to `most`.
 #[derive(Clone, Copy)]
@@ -43,7 +43,7 @@ fn fitting(word: &[u8], pattern: &[u8], chosen: &[u8]) -> Window
 
 // Extends the places chosen to the first whole occurrence that goes on with places from `from` on. Where there is none,
 // the places chosen are left.
-fn extend(word: &[u8], pattern: &[u8], chosen: &mut ArrayVec<u8, 160>, from: usize) -> bool
+fn extend(word: &[u8], pattern: &[u8], chosen: &mut ArrayVec<u8, MAX_LENGTH>, from: usize) -> bool
     requires word { IsTrue (is_perm word.now) }
     requires pattern { IsTrue (is_perm pattern.now) }
     requires begun { IsBegun word.now pattern.now chosen.old.items }
