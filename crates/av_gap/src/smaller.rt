@@ -6,7 +6,7 @@ ghost use Rattle.av_interval.specs.Laws.{IsNearSimple, LeavesSimple};
 ghost use Rattle.av_gap.specs.Smaller.{IsWithoutFirstPoint, IsWithoutFirstPair, IsFirstSmaller};
 
 use arrayvec::ArrayVec;
-use av_perm::{Perm, is_simple, pattern_of};
+use av_perm::{MAX_LENGTH, Perm, is_simple, pattern_of};
 
 /// Of a simple word of length at least 6, a simple word in it that is one or two shorter: what is left without the first
 /// point that leaves a simple pattern, or else, where no point does, without the lexicographically first pair of points
@@ -69,7 +69,7 @@ fn left_without(word: &Perm, first: usize, second: usize) -> Perm
 {
     let len = word.len();
     let entries = word.as_slice();
-    let mut left: ArrayVec<u8, 160> = ArrayVec::new();
+    let mut left: ArrayVec<u8, MAX_LENGTH> = ArrayVec::new();
     for i in 0..len {
         if i != first && i != second {
             left.push(entries[i]);

@@ -4,7 +4,7 @@ ghost use Rattle.av_simple.specs.Searched.{gap_of};
 
 use crate::{gap_is_final, smaller_simple};
 use arrayvec::ArrayVec;
-use av_perm::{Lex, Perm, Words, is_simple};
+use av_perm::{Lex, MAX_LENGTH, Perm, Words, is_simple};
 use av_simple::{Found, Outcome, extend_level, search};
 use std::alloc::Global;
 
@@ -23,7 +23,7 @@ fn leaves(word: &Perm, left: &Perm) -> bool {
 
 // What is left without the entries at two indices, which may be equal: of each other entry, its place among those in order.
 fn taken(entries: &[u8], first: usize, second: usize) -> Perm {
-    let mut left: ArrayVec<u8, 160> = ArrayVec::new();
+    let mut left: ArrayVec<u8, MAX_LENGTH> = ArrayVec::new();
     for i in 0..entries.len() {
         if i == first || i == second || left.is_full() {
             continue;

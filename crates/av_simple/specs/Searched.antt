@@ -1,5 +1,6 @@
 -- What a search of the simple words of a class stands for, and what it finds.
 use Rattle.std.specs.Prelude.{◌≡◌, ℕ, suc, ◌-◌, ◌≤◌, List, [], length, get_or, map, Option, Some, None}
+use Rattle.av_perm.specs.declared.limits.TheConstants.{MAX_ROOT_LENGTH}
 use Rattle.av_perm.specs.Lists.{counting}
 use Rattle.av_perm.specs.Gap.{simples, gap, simples_below}
 use Rattle.av_simple.specs.declared.outcome.Outcome.{Outcome}
@@ -52,6 +53,6 @@ roots_of s = roots_by s.basis (gap_of s)
 -- what was kept is what is to be found
 pub record IsFound (s : Searched) (levels : List (List (List ℕ))) (found : Outcome) : Type 0 where
   pub low : 5 ≤ s.limit
-  pub high : s.limit ≤ 10
+  pub high : s.limit ≤ MAX_ROOT_LENGTH
   pub found_is : found ≡ outcome_of s
   pub levels_are : levels ≡ levels_to s.basis (last_of s)

@@ -7,14 +7,14 @@ use crate::extension::extend_level;
 use crate::found::Found;
 use crate::level::level;
 use crate::outcome::Outcome;
-use av_perm::{Memory, Words};
+use av_perm::{MAX_ROOT_LENGTH, Memory, Words};
 use std::alloc::Global;
 
 /// Searches the simple words of a class from length 4 on, until two lengths in turn have none or the limit is reached,
-/// which is from 5 to 10.
+/// which is from 5 to `MAX_ROOT_LENGTH`.
 pub fn search(alloc: Global, basis: &Words, limit: usize) -> Result<Found, Memory>
     requires low { 5 ≤ limit }
-    requires high { limit ≤ 10 }
+    requires high { limit ≤ MAX_ROOT_LENGTH }
     ensures { IfOk result (λ found. found ≡ record { basis = basis.now; limit = limit }) }
 {
     let kept = basis.copy(alloc)?;
@@ -35,7 +35,7 @@ pub fn search(alloc: Global, basis: &Words, limit: usize) -> Result<Found, Memor
 // from the two levels below, unless a filter has fewer words to go through.
 fn next_level(alloc: Global, basis: &Words, levels: &[Words], m: usize) -> Result<Words, Memory>
     requires low { 4 ≤ m }
-    requires high { m ≤ 10 }
+    requires high { m ≤ MAX_ROOT_LENGTH }
     requires levels { levels.now ≡ levels_to basis.now (m - 1) }
     ensures { IfOk result (λ words. words ≡ simples basis.now m) }
 {
@@ -53,7 +53,7 @@ fn next_level(alloc: Global, basis: &Words, levels: &[Words], m: usize) -> Resul
 // Whether there are fewer words of length m than an extension of lists of these lengths goes through. Either finds the same.
 fn is_filter_shorter(two_below: usize, one_below: usize, m: usize) -> bool
     requires low { 6 ≤ m }
-    requires high { m ≤ 10 }
+    requires high { m ≤ MAX_ROOT_LENGTH }
 {
     let mut words: usize = 1;
     for k in 2..m + 1 {

@@ -7,7 +7,7 @@ ghost use Rattle.av_simple.specs.Extension.{raised_from, insert_point, HasPointI
 
 use arrayvec::ArrayVec;
 use av_match::avoids_all;
-use av_perm::{Memory, Perm, Words, is_simple};
+use av_perm::{MAX_LENGTH, Memory, Perm, Words, is_simple};
 use std::alloc::Global;
 use std::collections::BTreeSet;
 
@@ -148,7 +148,7 @@ fn insert_point(word: &Perm, place: usize, entry: u8) -> Perm
     ensures { result ≡ insert_point word.now place entry }
 {
     let _len = word.len();
-    let mut entries: ArrayVec<u8, 160> = ArrayVec::new();
+    let mut entries: ArrayVec<u8, MAX_LENGTH> = ArrayVec::new();
     for other in word.as_slice() {
         entries.push(raised_from(entry, *other));
     }
@@ -161,7 +161,7 @@ fn insert_point(word: &Perm, place: usize, entry: u8) -> Perm
 
 // An entry where a new one comes in.
 fn raised_from(entry: u8, other: u8) -> u8
-    requires { other < 160 }
+    requires { other < MAX_LENGTH }
     ensures { result ≡ raised_from entry other }
 {
     if other < entry { other } else { other + 1 }

@@ -4,7 +4,7 @@ ghost use Rattle.av_perm.specs.Gap.{simples};
 ghost use Rattle.av_simple.specs.Searched.{Searched, IsFound, gap_of, outcome_of, last_of, roots_of};
 
 use crate::outcome::Outcome;
-use av_perm::{Memory, Words};
+use av_perm::{MAX_ROOT_LENGTH, Memory, Words};
 use std::alloc::Global;
 use std::marker::Model;
 
@@ -56,18 +56,18 @@ impl Found {
         &self.basis
     }
 
-    /// The limit, from 5 to 10.
+    /// The limit, from 5 to `MAX_ROOT_LENGTH`.
     pub fn limit(&self) -> usize
         ensures { result ≡ self.now.limit }
     {
         self.limit
     }
 
-    /// The greatest length searched, from 5 to 10: one above the gap, or the limit where there is none.
+    /// The greatest length searched, from 5 to `MAX_ROOT_LENGTH`: one above the gap, or the limit where there is none.
     pub fn last(&self) -> usize
         ensures value { result ≡ last_of self.now }
         ensures low { 5 ≤ result }
-        ensures high { result ≤ 10 }
+        ensures high { result ≤ MAX_ROOT_LENGTH }
     {
         match self.outcome {
             Outcome::Gap(gap) => gap + 1,

@@ -2,6 +2,7 @@
 use Rattle.std.proofs.Common.{◌≡◌, inl, inr, ℕ, ◌≤◌, ◌^◌, true, ◌&&◌, ◌||◌, List, length, nat_eq, nat_le, nat_lt, refl, ap, eq-eqb, eqb-true, lt-ltb, arith}
 use Rattle.std.specs.List.{list_all}
 use Rattle.std.proofs.lemmas.Bool.{and_parts, and_from, or_cases, or_right, ltb-true, le-leb, leb-true}
+use Rattle.av_perm.specs.declared.limits.TheConstants.{MAX_ROOT_LENGTH}
 use Rattle.av_perm.specs.Lists.{same}
 use Rattle.av_perm.specs.Word.{is_word}
 use Rattle.av_perm.specs.WordOrder.{word_same}
@@ -17,15 +18,15 @@ use Rattle.av_sys.specs.Terms.{IsSystemRoot, IsTermOf, IsWellFormed, is_root, is
 use Rattle.av_sys.specs.Laws.{WellFormedLaw}
 
 -- the test of a simple root
-simple_from : (w : List ℕ) → (nat_le (length w) 10 && (is_word w && is_simple w)) ≡ true → IsSimple w × (length w ≤ 10)
+simple_from : (w : List ℕ) → (nat_le (length w) MAX_ROOT_LENGTH && (is_word w && is_simple w)) ≡ true → IsSimple w × (length w ≤ MAX_ROOT_LENGTH)
 simple_from w e =
-    let a = and_parts (nat_le (length w) 10) (is_word w && is_simple w) e in
+    let a = and_parts (nat_le (length w) MAX_ROOT_LENGTH) (is_word w && is_simple w) e in
     let b = and_parts (is_word w) (is_simple w) a.1 in
-    ((simple_law w (word_from w b.0).numbers).0 b.1, leb-true (length w) 10 a.0)
+    ((simple_law w (word_from w b.0).numbers).0 b.1, leb-true (length w) MAX_ROOT_LENGTH a.0)
 
-simple_to : (w : List ℕ) → IsSimple w → length w ≤ 10 → (nat_le (length w) 10 && (is_word w && is_simple w)) ≡ true
+simple_to : (w : List ℕ) → IsSimple w → length w ≤ MAX_ROOT_LENGTH → (nat_le (length w) MAX_ROOT_LENGTH && (is_word w && is_simple w)) ≡ true
 simple_to w s h =
-    and_from (nat_le (length w) 10) (is_word w && is_simple w) (le-leb (length w) 10 h)
+    and_from (nat_le (length w) MAX_ROOT_LENGTH) (is_word w && is_simple w) (le-leb (length w) MAX_ROOT_LENGTH h)
     (and_from (is_word w) (is_simple w) (word_to w word) ((simple_law w s.numbers).1 s))
   where
     word : IsWord w
@@ -33,9 +34,9 @@ simple_to w s h =
 
 -- the test of a root
 root_from : (w : List ℕ) → is_root w ≡ true → IsSystemRoot w
-root_from w e = elim (or_cases (same w sum_root) (same w skew_root || (nat_le (length w) 10 && (is_word w && is_simple w))) e) [
+root_from w e = elim (or_cases (same w sum_root) (same w skew_root || (nat_le (length w) MAX_ROOT_LENGTH && (is_word w && is_simple w))) e) [
   | inl h ↦ inl (word_same w sum_root h)
-  | inr h ↦ elim (or_cases (same w skew_root) (nat_le (length w) 10 && (is_word w && is_simple w)) h) [
+  | inr h ↦ elim (or_cases (same w skew_root) (nat_le (length w) MAX_ROOT_LENGTH && (is_word w && is_simple w)) h) [
     | inl k ↦ inr (inl (word_same w skew_root k))
     | inr k ↦ inr (inr (simple_from w k))
   ]
@@ -45,8 +46,8 @@ root_to : (w : List ℕ) → IsSystemRoot w → is_root w ≡ true
 root_to w (inl e) = ap is_root e
 root_to w (inr (inl e)) = ap is_root e
 root_to w (inr (inr s)) =
-    or_right (same w sum_root) (same w skew_root || (nat_le (length w) 10 && (is_word w && is_simple w)))
-    (or_right (same w skew_root) (nat_le (length w) 10 && (is_word w && is_simple w)) (simple_to w s.0 s.1))
+    or_right (same w sum_root) (same w skew_root || (nat_le (length w) MAX_ROOT_LENGTH && (is_word w && is_simple w)))
+    (or_right (same w skew_root) (nat_le (length w) MAX_ROOT_LENGTH && (is_word w && is_simple w)) (simple_to w s.0 s.1))
 
 -- the test of a term
 term_from : (n : ℕ) (t : Term) → is_term_of n t ≡ true → IsTermOf n t

@@ -32,7 +32,7 @@ pub record Means (name : Name) (σ : List ℕ) : Type 0 where
   pub meets : Meets name.avoid name.require σ
   pub signed : IsSigned name.sign σ
 
--- the words that a name avoids and requires have 1 to 160 entries, as the type `Words` holds them
+-- the words that a name avoids and requires have 1 to MAX_LENGTH entries, as the type `Words` holds them
 pub record IsMadeOfWords (name : Name) : Type 0 where
   pub avoided : ArePerms name.avoid
   pub required : ArePerms name.require

@@ -1,6 +1,7 @@
 -- What stands in a system, and when it is well formed.
 use Rattle.std.specs.Prelude.{◌≡◌, ◌⊎◌, ℕ, ◌<◌, ◌≤◌, ◌^◌, Bool, true, ◌&&◌, ◌||◌, All, List, [], length, slice_get, nat_eq, nat_le, nat_lt, Option, Some, None}
 use Rattle.std.specs.List.{list_all}
+use Rattle.av_perm.specs.declared.limits.TheConstants.{MAX_ROOT_LENGTH}
 use Rattle.av_perm.specs.Members.{In}
 use Rattle.av_perm.specs.Lists.{same}
 use Rattle.av_perm.specs.Word.{is_word}
@@ -30,9 +31,9 @@ children_of None = []
 children_of (Some Point) = []
 children_of (Some (Node root children)) = children
 
--- a root of a system: 12, 21, or a simple word of at most ten entries
+-- a root of a system: 12, 21, or a simple word of at most MAX_ROOT_LENGTH entries
 abbrev pub IsSystemRoot : List ℕ → Type 0
-IsSystemRoot π = (π ≡ sum_root) ⊎ ((π ≡ skew_root) ⊎ (IsSimple π × (length π ≤ 10)))
+IsSystemRoot π = (π ≡ sum_root) ⊎ ((π ≡ skew_root) ⊎ (IsSimple π × (length π ≤ MAX_ROOT_LENGTH)))
 
 -- a node of a system of so many equations: a root, and as many children as it is long, each the number of an equation
 pub record IsNodeOf (equations : ℕ) (root children : List ℕ) : Type 0 where
@@ -52,13 +53,13 @@ pub record IsWellFormed (S : System) : Type 0 where
   pub few : length S.equations < 2 ^ 32
   pub terms : (e : Equation) (t : Term) → In e S.equations → In t e.terms → IsTermOf (length S.equations) t
 
--- the names of the system's equations are made of words of 1 to 160 entries
+-- the names of the system's equations are made of words of 1 to MAX_LENGTH entries
 abbrev pub AreNamedByWords : System → Type 0
 AreNamedByWords S = All (λ e. IsMadeOfWords e.name) S.equations
 
 -- the tests of these
 abbrev pub is_root : List ℕ → Bool
-is_root w = same w sum_root || (same w skew_root || (nat_le (length w) 10 && (is_word w && is_simple w)))
+is_root w = same w sum_root || (same w skew_root || (nat_le (length w) MAX_ROOT_LENGTH && (is_word w && is_simple w)))
 
 abbrev pub is_node_of : ℕ → List ℕ → List ℕ → Bool
 is_node_of equations root children =

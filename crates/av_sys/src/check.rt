@@ -4,16 +4,16 @@ ghost use Rattle.std.specs.List.{list_all};
 ghost use Rattle.av_sys.specs.Terms.{is_root, is_node_of, is_term_of, are_terms_of, well_formed, IsWellFormed};
 
 use crate::terms::{Children, Equations, System, Term, Terms};
-use av_perm::{Perm, is_simple};
+use av_perm::{MAX_ROOT_LENGTH, Perm, is_simple};
 
-// Whether the word is 12, 21, or simple with at most ten entries.
+// Whether the word is 12, 21, or simple with at most `MAX_ROOT_LENGTH` entries.
 fn is_root(word: &Perm) -> bool
     ensures { result ≡ is_root word.now }
 {
     let entries = word.as_slice();
     entries == [1, 2].as_slice()
         || entries == [2, 1].as_slice()
-        || (word.len() <= 10 && is_simple(word))
+        || (word.len() <= MAX_ROOT_LENGTH && is_simple(word))
 }
 
 // Whether each is the number of one of so many equations.
@@ -56,8 +56,8 @@ fn are_terms_of(equations: usize, terms: &Terms) -> bool
 
 impl System {
     /// Whether the system is well formed: it has at least one equation and fewer than 2^32; every root is 12, 21 or a simple
-    /// word of length at most 10; every node has as many children as its root is long; every child is the number of an
-    /// equation.
+    /// word of length at most `MAX_ROOT_LENGTH`; every node has as many children as its root is long; every child is the
+    /// number of an equation.
     pub fn check(&self) -> bool
         ensures value { result ≡ well_formed self.now }
         ensures meaning { IsTrue result ↔ IsWellFormed self.now }
