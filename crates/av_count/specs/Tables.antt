@@ -1,5 +1,6 @@
 -- What a table holds.
 use Rattle.std.specs.Prelude.{◌≡◌, ℕ, ◌+◌, ◌<◌, ◌≤◌, List, [], length, slice_index_or}
+use Rattle.av_perm.specs.declared.limits.TheConstants.{MAX_LENGTH}
 use Rattle.av_sys.specs.declared.terms.System.{System}
 use Rattle.av_sys.specs.Terms.{IsWellFormed}
 use Rattle.av_sys.specs.TreeLists.{count_at}
@@ -41,12 +42,12 @@ pub record Stands : Type 0 where
   pub system : System
   pub largest : ℕ
 
--- the layout is that of a well-formed system, and the size is from 1 to 160
+-- the layout is that of a well-formed system, and the size is from 1 to MAX_LENGTH
 pub record IsLaidOut (g : Layout) : Type 0 where
   pub formed : IsWellFormed g.of.value
   pub nodes : AreNodes g.of.value g.links (length g.of.value.equations) g.nodes.items
   pub least : 1 ≤ g.largest
-  pub most : g.largest ≤ 160
+  pub most : g.largest ≤ MAX_LENGTH
 
 -- the rows hold below size s
 pub record IsFilled (g : Layout) (s : ℕ) (counts rests : List (List Count)) : Type 0 where

@@ -12,7 +12,7 @@ use crate::count::Count;
 use crate::layout::Layout;
 use crate::links::{Link, Rest};
 use crate::row::{Rows, convolved};
-use av_perm::Memory;
+use av_perm::{MAX_LENGTH, Memory};
 use av_sys::System;
 use std::alloc::Global;
 use std::marker::Model;
@@ -151,11 +151,11 @@ impl Model for Table {
 }
 
 impl Table {
-    /// The table of a well-formed system for the sizes up to n.
+    /// The table of a well-formed system for the sizes up to n, which is from 1 to `MAX_LENGTH`.
     pub fn new(alloc: Global, system: &System, n: usize) -> Result<Table, Memory>
         requires formed { IsWellFormed system.now }
         requires least { 1 ≤ n }
-        requires most { n ≤ 160 }
+        requires most { n ≤ MAX_LENGTH }
         ensures { IfOk result (λ t. (t.system ≡ system.now) × (t.largest ≡ n)) }
     {
         let layout = Layout::new(alloc, system, n)?;
@@ -176,7 +176,7 @@ impl Table {
     pub fn largest(&self) -> usize
         ensures value { result ≡ self.now.largest }
         ensures least { 1 ≤ result }
-        ensures most { result ≤ 160 }
+        ensures most { result ≤ MAX_LENGTH }
         ensures formed { IsWellFormed self.now.system }
     {
         self.layout.largest

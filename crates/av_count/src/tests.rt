@@ -1,6 +1,6 @@
 // Counts that are known.
 use crate::{Count, Table};
-use av_perm::{Memory, Perm, Words};
+use av_perm::{MAX_LENGTH, Memory, Perm, Words};
 use av_sys::{Children, Equation, Equations, Name, Sign, System, Term, Terms};
 use std::alloc::Global;
 
@@ -61,13 +61,13 @@ fn binary_trees_are_counted_by_the_catalan_numbers(rt: HostRuntime) -> Result<()
         assert!(rt; false);
         return Ok(());
     }
-    let table = Table::new(rt.alloc(), &system, 160)?;
-    assert_eq!(rt; table.largest(), 160);
+    let table = Table::new(rt.alloc(), &system, MAX_LENGTH)?;
+    assert_eq!(rt; table.largest(), MAX_LENGTH);
     assert!(rt; table.get(0, 0) == Count::Known(0));
     assert!(rt; table.get(0, 1) == Count::Known(1));
     assert!(rt; table.get(0, 5) == Count::Known(14));
     assert!(rt; table.get(0, 11) == Count::Known(16796));
-    assert!(rt; table.get(0, 160) == Count::Over);
+    assert!(rt; table.get(0, MAX_LENGTH) == Count::Over);
     Ok(())
 }
 
