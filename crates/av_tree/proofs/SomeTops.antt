@@ -3,6 +3,7 @@ use Rattle.std.proofs.Common.{◌≡◌, ℕ, zero, suc, ◌<◌, ◌≤◌, inl
 use Rattle.std.proofs.lemmas.Bool.{and_parts}
 use Rattle.std.proofs.lemmas.List.{length-map}
 use Rattle.std.proofs.lemmas.Option.{slice_get_within}
+use Rattle.av_perm.specs.declared.limits.TheConstants.{MAX_ROOT_LENGTH}
 use Rattle.av_perm.specs.Relations.{IsWord, AreBlocks, IsSimple, inflate, sum_root, skew_root}
 use Rattle.av_perm.proofs.Inflations.{length_inflate, lengths_least}
 use Rattle.av_perm.proofs.OneDecomposition.{one_decomposition}
@@ -98,8 +99,8 @@ simple_none S u w root spans g h f π αs simple b e t k =
     let q = one_decomposition w π root αs (blocks_at w spans) g.numbers (record { blocks = b; value = e; root = inr (inr simple) }) h.blocks in
     f t (subst (λ r. FitsTerm S r (blocks_at w spans) (term_at S u t)) q.0 (subst (λ βs. FitsTerm S π βs (term_at S u t)) q.1 k))
 
--- nor does a term have a root of more than ten entries
-pub long_none : (S : System) (u : ℕ) (w root : List ℕ) (spans : List Span) → IsWellFormed S → IsWord w → HasBlocks w root spans → 10 < length spans
+-- nor does a term have a root of more than MAX_ROOT_LENGTH entries
+pub long_none : (S : System) (u : ℕ) (w root : List ℕ) (spans : List Span) → IsWellFormed S → IsWord w → HasBlocks w root spans → MAX_ROOT_LENGTH < length spans
     → (π : List ℕ) (αs : List (List ℕ)) → IsSimple π → AreBlocks π αs → inflate π αs ≡ w → FitsNone S u π αs
 long_none S u w root spans formed g h long π αs simple b e t =
     let q = one_decomposition w π root αs (blocks_at w spans) g.numbers (record { blocks = b; value = e; root = inr (inr simple) }) h.blocks in
@@ -111,7 +112,7 @@ long_none S u w root spans formed g h long π αs simple b e t =
     by (Some (Node own cs)) e n f =
         let r = node_form S u t own cs formed e in
         let l = ap (λ (v : List ℕ). length v) f.0 in
-        omega (arith, r.ten, r.long, b.count, length-map spans (block_at w))
+        omega (arith, r.few, r.long, b.count, length-map spans (block_at w))
 
 -- no cut has a top of this root
 pub cut_none : (S : System) (u : ℕ) (w root : List ℕ) → IsTwoRoot root → ((k : ℕ) → 1 ≤ k → k < length w → HasNoCutTop S u w root k)

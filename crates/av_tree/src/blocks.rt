@@ -6,7 +6,7 @@ ghost use Rattle.av_decomp.specs.Blocks.{blocks_at};
 use arrayvec::ArrayVec;
 use av_decomp::block;
 use av_interval::Spans;
-use av_perm::Perm;
+use av_perm::{MAX_ROOT_LENGTH, Perm};
 use std::marker::Model;
 
 // A block, seen as its word. Its default, which an array vector needs, is the word 1.
@@ -42,10 +42,10 @@ impl Block {
     }
 }
 
-// The blocks of a word at spans, of which there are at most ten.
-pub fn blocks_of(word: &Perm, spans: &Spans) -> ArrayVec<Block, 10>
+// The blocks of a word at spans, of which there are at most `MAX_ROOT_LENGTH`.
+pub fn blocks_of(word: &Perm, spans: &Spans) -> ArrayVec<Block, MAX_ROOT_LENGTH>
     requires cover { Tiles 1 (length word.now) spans.now }
-    requires few { length spans.now ≤ 10 }
+    requires few { length spans.now ≤ MAX_ROOT_LENGTH }
     ensures { result.items ≡ blocks_at word.now spans.now }
 {
     let mut blocks = ArrayVec::new();

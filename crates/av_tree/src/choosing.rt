@@ -8,6 +8,7 @@ ghost use Rattle.av_count.specs.Members.{term_ways};
 ghost use Rattle.av_tree.specs.Picks.{Chosen, Sized};
 
 use av_count::{Count, Table, term, terms};
+use av_perm::MAX_ROOT_LENGTH;
 use av_sys::{Children, System, Term};
 
 // A size and a rank.
@@ -161,13 +162,13 @@ pub fn choose(
     size: usize,
     factor: Count,
     r: u128,
-    picks: &mut [Pick; 10],
+    picks: &mut [Pick; MAX_ROOT_LENGTH],
 ) -> u128
     requires eq { eq < length table.now.system.equations }
     requires t { t < length (terms_at table.now.system eq) }
     requires node { children_of (term_at table.now.system eq t) ≡ children.now }
     requires known { (k : ℕ) → k < length children.now → slice_index_or children.now k 0 < length table.now.system.equations }
-    requires ten { length children.now ≤ 10 }
+    requires few { length children.now ≤ MAX_ROOT_LENGTH }
     requires i { i ≤ length children.now }
     requires most { size ≤ table.now.largest }
     requires within { (F : ℕ) × (factor ≡ capped F) × (r < F * ways (count_at table.now.system) (drop i children.now) size) }

@@ -13,7 +13,7 @@ ghost use Rattle.av_tree.specs.Founds.{Alike};
 
 use crate::choosing::{sized_count, term_count};
 use av_count::{Count, Table};
-use av_perm::Perm;
+use av_perm::{MAX_ROOT_LENGTH, Perm};
 use av_sys::{Children, System};
 
 // A size and the count of a rank.
@@ -62,13 +62,13 @@ pub fn place_of(
     size: usize,
     factor: Count,
     q: Count,
-    picks: &[Found; 10],
+    picks: &[Found; MAX_ROOT_LENGTH],
 ) -> Count
     requires eq { eq < length table.now.system.equations }
     requires t { t < length (terms_at table.now.system eq) }
     requires node { children_of (term_at table.now.system eq t) ≡ children.now }
     requires known { (k : ℕ) → k < length children.now → slice_index_or children.now k 0 < length table.now.system.equations }
-    requires ten { length children.now ≤ 10 }
+    requires few { length children.now ≤ MAX_ROOT_LENGTH }
     requires i { i ≤ length children.now }
     requires most { size ≤ table.now.largest }
     requires fits { (ps : List Pick) × Fitting (count_at table.now.system) (drop i children.now) size ps × Alike (drop i picks.now) ps }
@@ -120,7 +120,7 @@ pub fn node_place(
     root: &Perm,
     children: &Children,
     size: usize,
-    picks: &[Found; 10],
+    picks: &[Found; MAX_ROOT_LENGTH],
 ) -> Count
     requires formed { IsWellFormed system.now }
     requires stands { table.now.system ≡ system.now }

@@ -9,7 +9,7 @@ ghost use Rattle.av_tree.specs.Ranks.{IsRanked};
 use crate::placing::{Found, before_term, node_place};
 use crate::tops::{find_point, find_top, means};
 use av_count::{Count, Table, term};
-use av_perm::Perm;
+use av_perm::{MAX_ROOT_LENGTH, Perm};
 use av_sys::{System, Term};
 
 /// The place of a word in the list of trees.
@@ -26,7 +26,7 @@ pub enum Ranked {
 /// The place of the word's tree in the list of the trees of equation 0 of its length, for a table that stands for the system
 /// and reaches this length, and a system of which each equation generates, up to this length, exactly the words that its name
 /// describes, each by one tree. `At` comes exactly where the place is below 2^128, `Big` where it is not, and `Stranger`
-/// where the word is the value of no tree of equation 0. It takes no memory. The calls are at most 160 deep.
+/// where the word is the value of no tree of equation 0. It takes no memory. The calls are at most `MAX_LENGTH` deep.
 pub fn rank(system: &System, table: &Table, word: &Perm) -> Ranked
     requires stands { table.now.system ≡ system.now }
     requires short { length word.now ≤ table.now.largest }
@@ -68,7 +68,7 @@ fn place(system: &System, table: &Table, eq: usize, word: &Perm) -> Count
             let mut founds = [Found {
                 size: 0,
                 rank: Count::Over,
-            }; 10];
+            }; MAX_ROOT_LENGTH];
             for i in 0..parts.len() {
                 let part = parts[i].word();
                 let rank = place(system, table, *children.get(i) as usize, part);

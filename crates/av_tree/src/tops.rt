@@ -13,14 +13,14 @@ use arrayvec::ArrayVec;
 use av_count::{term, terms};
 use av_decomp::{Shape, decompose, halves};
 use av_name::{satisfies, satisfies_besides};
-use av_perm::{Perm, Words, pattern_of};
+use av_perm::{MAX_ROOT_LENGTH, Perm, Words, pattern_of};
 use av_sys::{Children, System, Term};
 
 // A term of an equation, and the blocks for its children.
 #[derive(Drop)]
 pub struct Top {
     pub term: usize,
-    pub blocks: ArrayVec<Block, 10>,
+    pub blocks: ArrayVec<Block, MAX_ROOT_LENGTH>,
 }
 
 // Whether the word means the name of an equation.
@@ -194,7 +194,7 @@ fn find_simple(system: &System, eq: usize, word: &Perm, known: &Words) -> Option
         return None;
     };
     // No root of a system is longer.
-    if spans.len() > 10 {
+    if spans.len() > MAX_ROOT_LENGTH {
         return None;
     }
     let blocks = blocks_of(word, &spans);

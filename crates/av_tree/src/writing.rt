@@ -8,14 +8,14 @@ ghost use Rattle.av_tree.specs.Picks.{lower};
 use crate::choosing::{Pick, choose, choose_term};
 use arrayvec::ArrayVec;
 use av_count::{Count, Table, term};
-use av_perm::Perm;
+use av_perm::{MAX_LENGTH, MAX_ROOT_LENGTH, Perm};
 use av_sys::{System, Term};
 
 // The sum of the sizes of the children whose entry in the root is below entry i.
-fn lower_sizes(root: &Perm, picks: &[Pick; 10], i: usize) -> usize
+fn lower_sizes(root: &Perm, picks: &[Pick; MAX_ROOT_LENGTH], i: usize) -> usize
     requires i { i < length root.now }
-    requires ten { length root.now ≤ 10 }
-    requires most { lower (slice_index root.now i) root.now picks.now ≤ 160 }
+    requires few { length root.now ≤ MAX_ROOT_LENGTH }
+    requires most { lower (slice_index root.now i) root.now picks.now ≤ MAX_LENGTH }
     ensures { result ≡ lower (slice_index root.now i) root.now picks.now }
 {
     let entries = root.as_slice();
@@ -37,7 +37,7 @@ fn push_member(
     size: usize,
     r: u128,
     raise: usize,
-    out: &mut ArrayVec<u8, 160>,
+    out: &mut ArrayVec<u8, MAX_LENGTH>,
 )
     requires formed { IsWellFormed system.now }
     requires stands { table.now.system ≡ system.now }
@@ -45,15 +45,15 @@ fn push_member(
     requires least { 1 ≤ size }
     requires most { size ≤ table.now.largest }
     requires within { r < count_at system.now eq size }
-    requires raise { raise + size ≤ 160 }
-    requires room { length out.old.items + size ≤ 160 }
+    requires raise { raise + size ≤ MAX_LENGTH }
+    requires room { length out.old.items + size ≤ MAX_LENGTH }
     ensures { out.new.items ≡ out.old.items ++ map (λ x. x + raise) (slice_index_or (members_at system.now eq size) r []) }
 {
     let cut = choose_term(system, table, eq, size, r);
     match term(system, eq, cut.at) {
         Term::Point => out.push((raise + 1) as u8),
         Term::Node { root, children } => {
-            let mut picks = [Pick { size: 0, rank: 0 }; 10];
+            let mut picks = [Pick { size: 0, rank: 0 }; MAX_ROOT_LENGTH];
             let _in_front = choose(
                 table,
                 children,
@@ -76,7 +76,7 @@ fn push_member(
 }
 
 /// The word of the tree at place r of the list of the trees of equation 0 of size n, for a table that stands for the system
-/// and reaches n. There is none exactly where the list ends before. It takes no memory. The calls are at most 160 deep.
+/// and reaches n. There is none exactly where the list ends before. It takes no memory. The calls are at most `MAX_LENGTH` deep.
 pub fn unrank(system: &System, table: &Table, n: usize, r: u128) -> Option<Perm>
     requires stands { table.now.system ≡ system.now }
     requires least { 1 ≤ n }

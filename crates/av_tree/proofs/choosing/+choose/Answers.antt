@@ -31,7 +31,7 @@ choose-q-requires t c =
             (
               c.requires.known,
               (
-                c.requires.ten,
+                c.requires.few,
                 (
                   omega (arith, less),
                   (
@@ -69,4 +69,4 @@ returns t c F h lt =
     let p = c.split-quotient.ensures T c.get-number.ensures in
     let less : c.args.i < length cs = omega (arith, c.if-i-len.false, c.len-len.ensures, c.requires.i) in
     chosen_at S cs c.args.i c.get.result.now c.args.size F c.args.r c.choose_size-cut.result.left c.choose_size-cut.result.at c.choose-q.result c.choose-q.new.picks
-    c.split-quotient.result.0 c.split-quotient.result.1 less (omega (arith, less, c.requires.ten, c.choose-q.array_long)) e s ch p.0 p.1
+    c.split-quotient.result.0 c.split-quotient.result.1 less (omega (arith, less, c.requires.few, c.choose-q.array_long)) e s ch p.0 p.1

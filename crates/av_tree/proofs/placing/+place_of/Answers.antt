@@ -22,7 +22,7 @@ get-number-requires-clause-size t c =
     let i = c.args.i in
     let less : i < length cs = omega (arith, c.if-i-len.false, c.len-len.ensures, c.requires.i) in
     let e = child_is cs i c.get.result.now c.get.ensures in
-    let h = here_at S cs i c.get.result.now c.args.size c.args.picks.now none c.requires.fits.0 less (omega (arith, less, c.requires.ten, c.told-picks)) e c.requires.fits.1 c.requires.fits.2 in
+    let h = here_at S cs i c.get.result.now c.args.size c.args.picks.now none c.requires.fits.0 less (omega (arith, less, c.requires.few, c.told-picks)) e c.requires.fits.1 c.requires.fits.2 in
     omega (arith, h.most, c.requires.most)
 
 pub smaller-before-requires-clause-own : goal.smaller-before-requires-clause-own
@@ -32,7 +32,7 @@ smaller-before-requires-clause-own t c =
     let i = c.args.i in
     let less : i < length cs = omega (arith, c.if-i-len.false, c.len-len.ensures, c.requires.i) in
     let e = child_is cs i c.get.result.now c.get.ensures in
-    let h = here_at S cs i c.get.result.now c.args.size c.args.picks.now none c.requires.fits.0 less (omega (arith, less, c.requires.ten, c.told-picks)) e c.requires.fits.1 c.requires.fits.2 in
+    let h = here_at S cs i c.get.result.now c.args.size c.args.picks.now none c.requires.fits.0 less (omega (arith, less, c.requires.few, c.told-picks)) e c.requires.fits.1 c.requires.fits.2 in
     omega (arith, h.most)
 
 pub smaller-before-requires-clause-least : goal.smaller-before-requires-clause-least
@@ -42,7 +42,7 @@ smaller-before-requires-clause-least t c =
     let i = c.args.i in
     let less : i < length cs = omega (arith, c.if-i-len.false, c.len-len.ensures, c.requires.i) in
     let e = child_is cs i c.get.result.now c.get.ensures in
-    let h = here_at S cs i c.get.result.now c.args.size c.args.picks.now none c.requires.fits.0 less (omega (arith, less, c.requires.ten, c.told-picks)) e c.requires.fits.1 c.requires.fits.2 in
+    let h = here_at S cs i c.get.result.now c.args.size c.args.picks.now none c.requires.fits.0 less (omega (arith, less, c.requires.few, c.told-picks)) e c.requires.fits.1 c.requires.fits.2 in
     h.least
 
 pub place_of-within-requires : goal.place_of-within-requires
@@ -52,8 +52,8 @@ place_of-within-requires t c =
     let i = c.args.i in
     let less : i < length cs = omega (arith, c.if-i-len.false, c.len-len.ensures, c.requires.i) in
     let e = child_is cs i c.get.result.now c.get.ensures in
-    let h = here_at S cs i c.get.result.now c.args.size c.args.picks.now none c.requires.fits.0 less (omega (arith, less, c.requires.ten, c.told-picks)) e c.requires.fits.1 c.requires.fits.2 in
-    (omega (arith, c.decreases, less), (c.requires.eq, (c.requires.t, (c.requires.node, (c.requires.known, (c.requires.ten, (omega (arith, less), (omega (arith, c.requires.most), (h.later, h.rest, h.alike)))))))))
+    let h = here_at S cs i c.get.result.now c.args.size c.args.picks.now none c.requires.fits.0 less (omega (arith, less, c.requires.few, c.told-picks)) e c.requires.fits.1 c.requires.fits.2 in
+    (omega (arith, c.decreases, less), (c.requires.eq, (c.requires.t, (c.requires.node, (c.requires.known, (c.requires.few, (omega (arith, less), (omega (arith, c.requires.most), (h.later, h.rest, h.alike)))))))))
 
 pub returns : goal.returns
 returns t c F x ps hf hq lt fits alike =
@@ -63,7 +63,7 @@ returns t c F x ps hf hq lt fits alike =
     let f = get_or c.args.picks.now i none in
     let less : i < length cs = omega (arith, c.if-i-len.false, c.len-len.ensures, c.requires.i) in
     let e = child_is cs i c.get.result.now c.get.ensures in
-    let h = here_at S cs i c.get.result.now c.args.size c.args.picks.now none ps less (omega (arith, less, c.requires.ten, c.told-picks)) e fits alike in
+    let h = here_at S cs i c.get.result.now c.args.size c.args.picks.now none ps less (omega (arith, less, c.requires.few, c.told-picks)) e fits alike in
     let T = count_at S c.get.result.now f.size in
     let q = c.plus.ensures (x * T) h.own (c.times-2.ensures x T hq c.get-number.ensures) h.counted in
     let w = c.place_of-within.ensures (F * T) (x * T + h.own) h.later (c.times.ensures F T hf c.get-number.ensures) q (rank_below F T x h.own lt h.below) h.rest h.alike in

@@ -15,8 +15,8 @@ place_of-within-requires-clause-known c k lt =
     subst (λ (S : System). get_or c.args.children.now k 0 < length S.equations) (sym c.requires.stands)
     ((node_form c.args.system.now c.args.eq c.args.t c.args.root.now c.args.children.now c.requires.formed c.requires.node).known k lt)
 
-pub place_of-within-requires-clause-ten : goal.place_of-within-requires-clause-ten
-place_of-within-requires-clause-ten c = (node_form c.args.system.now c.args.eq c.args.t c.args.root.now c.args.children.now c.requires.formed c.requires.node).ten
+pub place_of-within-requires-clause-few : goal.place_of-within-requires-clause-few
+place_of-within-requires-clause-few c = (node_form c.args.system.now c.args.eq c.args.t c.args.root.now c.args.children.now c.requires.formed c.requires.node).few
 
 pub place_of-within-requires-clause-fits : goal.place_of-within-requires-clause-fits
 place_of-within-requires-clause-fits c =

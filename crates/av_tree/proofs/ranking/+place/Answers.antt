@@ -98,7 +98,7 @@ offset_bounds-founds-i t c =
     let g = node_form S c.args.eq c.unwrap-top.result.term root cs c.requires.formed e in
     let n = found_top S c.args.eq w c.find_top.result c.unwrap-top.result αs root cs c.find_top.ensures c.unwrap-top.ensures c.as_slice-parts.ensures.value e in
     let count = top_count S w root cs αs n g.long in
-    omega (arith, g.ten, count, c.loop-i-test.true)
+    omega (arith, g.few, count, c.loop-i-test.true)
 
 pub bounds-founds-i : goal.bounds-founds-i
 bounds-founds-i t c =
@@ -111,7 +111,7 @@ bounds-founds-i t c =
     let g = node_form S c.args.eq c.unwrap-top.result.term root cs c.requires.formed e in
     let n = found_top S c.args.eq w c.find_top.result c.unwrap-top.result αs root cs c.find_top.ensures c.unwrap-top.ensures c.as_slice-parts.ensures.value e in
     let count = top_count S w root cs αs n g.long in
-    omega (arith, g.ten, count, c.loop-i-test.true)
+    omega (arith, g.few, count, c.loop-i-test.true)
 
 pub loop-i-preserved : goal.loop-i-preserved
 loop-i-preserved t c =
@@ -131,7 +131,7 @@ loop-i-preserved t c =
     record {
       long = length-set c.loop-i.founds i (record { size = c.len-in-loop-i.result; rank = c.place-rank.result }) ∙ c.loop-i.invariant.long;
       found = found_more S cs αs c.loop-i.founds i (record { size = c.len-in-loop-i.result; rank = c.place-rank.result })
-          (omega (arith, count, c.loop-i.invariant.long, g.ten, c.loop-i-test.true)) c.loop-i.invariant.found h;
+          (omega (arith, count, c.loop-i.invariant.long, g.few, c.loop-i-test.true)) c.loop-i.invariant.found h;
     }
 
 pub node_place-requires-clause-fits : goal.node_place-requires-clause-fits
@@ -146,7 +146,7 @@ node_place-requires-clause-fits t c =
     let n = found_top S c.args.eq w c.find_top.result c.unwrap-top.result αs root cs c.find_top.ensures c.unwrap-top.ensures c.as_slice-parts.ensures.value e in
     let count = top_count S w root cs αs n g.long in
     let q : c.loop-i.i ≡ length cs = omega (arith, count, c.loop-i-test.false, c.loop-i.auto.i-end) in
-    let p = top_picks S w root cs αs n g.long c.loop-i.founds (omega (arith, c.loop-i.invariant.long, g.ten)) (subst (FoundUpTo S cs αs c.loop-i.founds) q c.loop-i.invariant.found) in
+    let p = top_picks S w root cs αs n g.long c.loop-i.founds (omega (arith, c.loop-i.invariant.long, g.few)) (subst (FoundUpTo S cs αs c.loop-i.founds) q c.loop-i.invariant.found) in
     (p.picks, subst (λ m. Fitting (count_at S) cs m p.picks) (sym c.len-in-Node.ensures.value) p.fits, p.alike)
 
 pub returns-after-loop-i : goal.returns-after-loop-i
@@ -161,7 +161,7 @@ returns-after-loop-i t c =
     let n = found_top S c.args.eq w c.find_top.result c.unwrap-top.result αs root cs c.find_top.ensures c.unwrap-top.ensures c.as_slice-parts.ensures.value e in
     let count = top_count S w root cs αs n g.long in
     let q : c.loop-i.i ≡ length cs = omega (arith, count, c.loop-i-test.false, c.loop-i.auto.i-end) in
-    let p = top_picks S w root cs αs n g.long c.loop-i.founds (omega (arith, c.loop-i.invariant.long, g.ten)) (subst (FoundUpTo S cs αs c.loop-i.founds) q c.loop-i.invariant.found) in
+    let p = top_picks S w root cs αs n g.long c.loop-i.founds (omega (arith, c.loop-i.invariant.long, g.few)) (subst (FoundUpTo S cs αs c.loop-i.founds) q c.loop-i.invariant.found) in
     let r = c.node_place.ensures p.picks (subst (λ m. Fitting (count_at S) cs m p.picks) (sym c.len-in-Node.ensures.value) p.fits) p.alike in
     subst (λ v. RankedAt S c.args.eq (length w) v c.node_place.result) (top_word S w root cs αs n g.long c.loop-i.founds p)
     (subst (λ m. RankedAt S c.args.eq m (inflate root (picked (members_at S) cs p.picks)) c.node_place.result) c.len-in-Node.ensures.value r)

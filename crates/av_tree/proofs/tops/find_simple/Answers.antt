@@ -7,10 +7,10 @@ use Rattle.av_tree.proofs.FoundTops.{shape_inflation, fits_top}
 use Rattle.av_tree.proofs.SomeTops.{simple_none, long_none}
 use Rattle.av_tree.proofs.tops.find_simple.Goals as goal
 
-pub returns-then-len-gt10 : goal.returns-then-len-gt10
-returns-then-len-gt10 c =
+pub returns-then-len-gt-MAX_ROOT_LENGTH : goal.returns-then-len-gt-MAX_ROOT_LENGTH
+returns-then-len-gt-MAX_ROOT_LENGTH c =
     long_none c.args.system.now c.args.eq c.args.word.now c.in-Inflated.root c.in-Inflated.spans c.requires.formed (perm_word c.args.word.now c.len-len.ensures.word) c.in-Inflated.ensures
-    (omega (arith, c.len.ensures, c.if-len-gt10.true))
+    (omega (arith, c.len.ensures, c.if-len-gt-MAX_ROOT_LENGTH.true))
 
 pub find_term-requires-clause-avoided : goal.find_term-requires-clause-avoided
 find_term-requires-clause-avoided c =

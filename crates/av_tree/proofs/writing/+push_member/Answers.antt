@@ -22,9 +22,9 @@ choose-in_front-requires-clause-known t c k lt =
     subst (λ (S : System). get_or c.in-Node.children k 0 < length S.equations) (sym c.requires.stands)
     ((node_form c.args.system.now c.args.eq c.choose_term-cut.result.at c.in-Node.root c.in-Node.children c.requires.formed e).known k lt)
 
-pub choose-in_front-requires-clause-ten : goal.choose-in_front-requires-clause-ten
-choose-in_front-requires-clause-ten t c =
-    (node_form c.args.system.now c.args.eq c.choose_term-cut.result.at c.in-Node.root c.in-Node.children c.requires.formed (c.term.ensures ∙ ap Some c.in-Node.is)).ten
+pub choose-in_front-requires-clause-few : goal.choose-in_front-requires-clause-few
+choose-in_front-requires-clause-few t c =
+    (node_form c.args.system.now c.args.eq c.choose_term-cut.result.at c.in-Node.root c.in-Node.children c.requires.formed (c.term.ensures ∙ ap Some c.in-Node.is)).few
 
 pub choose-in_front-requires-clause-within : goal.choose-in_front-requires-clause-within
 choose-in_front-requires-clause-within t c =
@@ -36,22 +36,22 @@ loop-i-init t c = sym (append-nil c.args.out.now.items)
 pub bounds-picks-i : goal.bounds-picks-i
 bounds-picks-i t c =
     let g = node_form c.args.system.now c.args.eq c.choose_term-cut.result.at c.in-Node.root c.in-Node.children c.requires.formed (c.term.ensures ∙ ap Some c.in-Node.is) in
-    omega (arith, g.ten, c.loop-i-test.true, c.len-i-end.ensures)
+    omega (arith, g.few, c.loop-i-test.true, c.len-i-end.ensures)
 
 pub offset_bounds-picks-i : goal.offset_bounds-picks-i
 offset_bounds-picks-i t c =
     let g = node_form c.args.system.now c.args.eq c.choose_term-cut.result.at c.in-Node.root c.in-Node.children c.requires.formed (c.term.ensures ∙ ap Some c.in-Node.is) in
-    omega (arith, g.ten, c.loop-i-test.true, c.len-i-end.ensures)
+    omega (arith, g.few, c.loop-i-test.true, c.len-i-end.ensures)
 
 pub lower_sizes-requires-clause-i : goal.lower_sizes-requires-clause-i
 lower_sizes-requires-clause-i t c =
     let g = node_form c.args.system.now c.args.eq c.choose_term-cut.result.at c.in-Node.root c.in-Node.children c.requires.formed (c.term.ensures ∙ ap Some c.in-Node.is) in
     omega (arith, g.long, c.loop-i-test.true, c.len-i-end.ensures)
 
-pub lower_sizes-requires-clause-ten : goal.lower_sizes-requires-clause-ten
-lower_sizes-requires-clause-ten t c =
+pub lower_sizes-requires-clause-few : goal.lower_sizes-requires-clause-few
+lower_sizes-requires-clause-few t c =
     let g = node_form c.args.system.now c.args.eq c.choose_term-cut.result.at c.in-Node.root c.in-Node.children c.requires.formed (c.term.ensures ∙ ap Some c.in-Node.is) in
-    omega (arith, g.long, g.ten)
+    omega (arith, g.long, g.few)
 
 pub lower_sizes-requires-clause-most : goal.lower_sizes-requires-clause-most
 lower_sizes-requires-clause-most t c =
