@@ -10,7 +10,7 @@ use crate::path::{Path, back, enter};
 use crate::patterns::Patterns;
 use crate::steps::{Step, next_step};
 use crate::table::Table;
-use av_perm::{Memory, Perm};
+use av_perm::{MAX_PATTERN_LENGTH, MAX_ROOT_LENGTH, Memory, Perm};
 use av_sys::Name;
 use std::alloc::Global;
 use std::marker::Model;
@@ -51,9 +51,9 @@ impl<'a> Boxes<'a> {
     /// Pierrot, Pivoteau and Rossin, An algorithm computing combinatorial specifications of permutation classes, 2017.
     pub fn new(alloc: Global, root: &'a Perm, name: &'a Name) -> Result<Boxes<'a>, Memory>
         requires root { 2 ≤ length root.now }
-        requires small { length root.now ≤ 10 }
-        requires avoid { All (λ w. length w ≤ 12) name.now.avoid }
-        requires require { All (λ w. length w ≤ 12) name.now.require }
+        requires small { length root.now ≤ MAX_ROOT_LENGTH }
+        requires avoid { All (λ w. length w ≤ MAX_PATTERN_LENGTH) name.now.avoid }
+        requires require { All (λ w. length w ≤ MAX_PATTERN_LENGTH) name.now.require }
         ensures { IfOk result (λ left. left ≡ boxes root.entry.now name.entry.now.avoid name.entry.now.require) }
     {
         // Their lengths tell that these lists are of words.
@@ -159,9 +159,9 @@ fn advance(
 /// Pivoteau and Rossin, An algorithm computing combinatorial specifications of permutation classes, 2017.
 pub fn split(alloc: Global, root: &Perm, name: &Name) -> Result<BoxList, Memory>
     requires root { 2 ≤ length root.now }
-    requires small { length root.now ≤ 10 }
-    requires avoid { All (λ w. length w ≤ 12) name.now.avoid }
-    requires require { All (λ w. length w ≤ 12) name.now.require }
+    requires small { length root.now ≤ MAX_ROOT_LENGTH }
+    requires avoid { All (λ w. length w ≤ MAX_PATTERN_LENGTH) name.now.avoid }
+    requires require { All (λ w. length w ≤ MAX_PATTERN_LENGTH) name.now.require }
     ensures { IfOk result (λ found. found ≡ boxes root.now name.now.avoid name.now.require) }
 {
     let mut boxes = Boxes::new(alloc, root, name)?;
