@@ -46,46 +46,47 @@ either_open Inside y e = absurd (cc)
 either_open Outside y e = inr (refl, e)
 either_open Open y e = inl refl
 
+-- what is known of all, or of some, is known of each, or of one
+pub each_inside : {A : Type 0} (f : A → Known) (xs : List A) → all_of f xs ≡ Inside → Each (λ x. f x ≡ Inside) xs
+each_inside f [] e x i = absurd i
+each_inside f (y ∷ xs) e x (inl q) = ap f q ∙ (both_inside (f y) (all_of f xs) e).0
+each_inside f (y ∷ xs) e x (inr i) = each_inside f xs (both_inside (f y) (all_of f xs) e).1 x i
+
+pub each_outside : {A : Type 0} (f : A → Known) (xs : List A) → some_of f xs ≡ Outside → Each (λ x. f x ≡ Outside) xs
+each_outside f [] e x i = absurd i
+each_outside f (y ∷ xs) e x (inl q) = ap f q ∙ (either_outside (f y) (some_of f xs) e).0
+each_outside f (y ∷ xs) e x (inr i) = each_outside f xs (either_outside (f y) (some_of f xs) e).1 x i
+
+pub one_outside : {A : Type 0} (f : A → Known) (xs : List A) → all_of f xs ≡ Outside → SomeIn (λ x. f x ≡ Outside) xs
+one_outside f [] e = absurd (cc)
+one_outside f (y ∷ xs) e = elim (both_outside (f y) (all_of f xs) e) [
+  | inl q ↦ (y, inl refl, q)
+  | inr q ↦ let r = one_outside f xs q in (r.0, inr r.1, r.2)
+]
+
+one_inside : {A : Type 0} (f : A → Known) (xs : List A) → some_of f xs ≡ Inside → SomeIn (λ x. f x ≡ Inside) xs
+one_inside f [] e = absurd (cc)
+one_inside f (y ∷ xs) e = elim (either_inside (f y) (some_of f xs) e) [
+  | inl q ↦ (y, inl refl, q)
+  | inr q ↦ let r = one_inside f xs q in (r.0, inr r.1, r.2)
+]
+
 -- `f` says no more of the items than is true
 pub record Says {A : Type 0} (f : A → Known) (P : A → Type 0) (x : A) : Type 0 where
   pub inside : f x ≡ Inside → P x
   pub outside : f x ≡ Outside → P x → ⊥
 
-all_inside : {A : Type 0} (f : A → Known) (P : A → Type 0) (xs : List A) → Each (Says f P) xs → all_of f xs ≡ Inside → Each P xs
-all_inside f P [] s e x i = absurd i
-all_inside f P (y ∷ xs) s e x (inl q) = subst P (sym q) ((s y (inl refl)).inside (both_inside (f y) (all_of f xs) e).0)
-all_inside f P (y ∷ xs) s e x (inr i) = all_inside f P xs (λ z k. s z (inr k)) (both_inside (f y) (all_of f xs) e).1 x i
-
-all_outside : {A : Type 0} (f : A → Known) (P : A → Type 0) (xs : List A) → Each (Says f P) xs → all_of f xs ≡ Outside → Each P xs → ⊥
-all_outside f P [] s e h = cc
-all_outside f P (y ∷ xs) s e h = elim (both_outside (f y) (all_of f xs) e) [
-  | inl q ↦ (s y (inl refl)).outside q (h y (inl refl))
-  | inr q ↦ all_outside f P xs (λ z k. s z (inr k)) q (λ z k. h z (inr k))
-]
-
 all_says : {A : Type 0} (f : A → Known) (P : A → Type 0) (xs : List A) → Each (Says f P) xs → Says (all_of f) (Each P) xs
-all_says f P xs s = record { inside = all_inside f P xs s; outside = all_outside f P xs s }
-
-some_inside : {A : Type 0} (f : A → Known) (P : A → Type 0) (xs : List A) → Each (Says f P) xs → some_of f xs ≡ Inside → SomeIn P xs
-some_inside f P [] s e = absurd (cc)
-some_inside f P (y ∷ xs) s e = elim (either_inside (f y) (some_of f xs) e) [
-  | inl q ↦ (y, inl refl, (s y (inl refl)).inside q)
-  | inr q ↦ let r = some_inside f P xs (λ z k. s z (inr k)) q in (r.0, inr r.1, r.2)
-]
-
-some_cases : {A : Type 0} (P : A → Type 0) (y : A) (xs : List A) (x : A) → In x (y ∷ xs) → P x → P y ⊎ SomeIn P xs
-some_cases P y xs x (inl q) p = inl (subst P q p)
-some_cases P y xs x (inr i) p = inr (x, i, p)
-
-some_outside : {A : Type 0} (f : A → Known) (P : A → Type 0) (xs : List A) → Each (Says f P) xs → some_of f xs ≡ Outside → SomeIn P xs → ⊥
-some_outside f P [] s e h = h.1
-some_outside f P (y ∷ xs) s e h = elim (some_cases P y xs h.0 h.1 h.2) [
-  | inl p ↦ (s y (inl refl)).outside (either_outside (f y) (some_of f xs) e).0 p
-  | inr r ↦ some_outside f P xs (λ z k. s z (inr k)) (either_outside (f y) (some_of f xs) e).1 r
-]
+all_says f P xs s = record {
+  inside = λ e x i. (s x i).inside (each_inside f xs e x i);
+  outside = λ e h. let r = one_outside f xs e in (s r.0 r.1).outside r.2 (h r.0 r.1);
+}
 
 some_says : {A : Type 0} (f : A → Known) (P : A → Type 0) (xs : List A) → Each (Says f P) xs → Says (some_of f) (SomeIn P) xs
-some_says f P xs s = record { inside = some_inside f P xs s; outside = some_outside f P xs s }
+some_says f P xs s = record {
+  inside = λ e. let r = one_inside f xs e in (r.0, r.1, (s r.0 r.1).inside r.2);
+  outside = λ e h. (s h.0 h.1).outside (each_outside f xs e h.0 h.1) h.2;
+}
 
 abbrev pub MetIf : Bool → Type 0 → Type 0
 MetIf true X = X
@@ -112,24 +113,6 @@ query_In {Q = Q} ds d m q i j k = flat_map_In (λ (d : Demand Q). flat_map (λ (
 
 demands_say : {Q : Type 0} (f : Q → Known) (H : Q → Type 0) (ds : List (Demand Q)) → Each (Says f H) (queries_of ds) → Says (demands_known f) (Each (Met H)) ds
 demands_say {Q = Q} f H ds s = all_says (demand_known f) (Met H) ds (λ (d : Demand Q) i. demand_says f H d (λ m j q k. s q (query_In ds d m q i j k)))
-
--- what is known of all, or of some, is known of each, or of one
-pub each_inside : {A : Type 0} (f : A → Known) (xs : List A) → all_of f xs ≡ Inside → Each (λ x. f x ≡ Inside) xs
-each_inside f [] e x i = absurd i
-each_inside f (y ∷ xs) e x (inl q) = ap f q ∙ (both_inside (f y) (all_of f xs) e).0
-each_inside f (y ∷ xs) e x (inr i) = each_inside f xs (both_inside (f y) (all_of f xs) e).1 x i
-
-pub each_outside : {A : Type 0} (f : A → Known) (xs : List A) → some_of f xs ≡ Outside → Each (λ x. f x ≡ Outside) xs
-each_outside f [] e x i = absurd i
-each_outside f (y ∷ xs) e x (inl q) = ap f q ∙ (either_outside (f y) (some_of f xs) e).0
-each_outside f (y ∷ xs) e x (inr i) = each_outside f xs (either_outside (f y) (some_of f xs) e).1 x i
-
-pub one_outside : {A : Type 0} (f : A → Known) (xs : List A) → all_of f xs ≡ Outside → SomeIn (λ x. f x ≡ Outside) xs
-one_outside f [] e = absurd (cc)
-one_outside f (y ∷ xs) e = elim (both_outside (f y) (all_of f xs) e) [
-  | inl q ↦ (y, inl refl, q)
-  | inr q ↦ let r = one_outside f xs q in (r.0, inr r.1, r.2)
-]
 
 pub unflipped : (k : Known) → turned false k ≡ Inside → k ≡ Outside
 unflipped Inside e = absurd (cc)

@@ -128,19 +128,17 @@ each_of P [] x a i = absurd i
 each_of P (y ∷ xs) x a (inl e) = subst P (sym e) a.0
 each_of P (y ∷ xs) x a (inr i) = each_of P xs x a.1 i
 
+-- words that the test tells apart
+never_same : (u v : List ℕ) → same u v ≡ false → u ≡ v → ⊥
+never_same u v f q = let t : same u v ≡ true = subst (λ z. same u z ≡ true) q (same_refl u) in let r : true ≡ false = sym t ∙ f in cc
+
 -- different words have different numbers
 distinct_same : (ps : List (List ℕ)) (i j : ℕ) → IsDistinct same ps → i < length ps → j < length ps → get_or ps i [] ≡ get_or ps j [] → i ≡ j
 unfolding IsDistinct
 distinct_same [] i j d h k e = absurd (omega arith)
 distinct_same (w ∷ ps) zero zero d h k e = refl
-distinct_same (w ∷ ps) zero (suc j) d h k e = absurd (never w (get_or ps j []) (each_of (λ y. same w y ≡ false) ps (get_or ps j []) d.0 (In_at ps j [] (omega arith))) e)
-  where
-    never : (u v : List ℕ) → same u v ≡ false → u ≡ v → ⊥
-    never u v f q = let t : same u v ≡ true = subst (λ z. same u z ≡ true) q (same_refl u) in let r : true ≡ false = sym t ∙ f in cc
-distinct_same (w ∷ ps) (suc i) zero d h k e = absurd (never w (get_or ps i []) (each_of (λ y. same w y ≡ false) ps (get_or ps i []) d.0 (In_at ps i [] (omega arith))) (sym e))
-  where
-    never : (u v : List ℕ) → same u v ≡ false → u ≡ v → ⊥
-    never u v f q = let t : same u v ≡ true = subst (λ z. same u z ≡ true) q (same_refl u) in let r : true ≡ false = sym t ∙ f in cc
+distinct_same (w ∷ ps) zero (suc j) d h k e = absurd (never_same w (get_or ps j []) (each_of (λ y. same w y ≡ false) ps (get_or ps j []) d.0 (In_at ps j [] (omega arith))) e)
+distinct_same (w ∷ ps) (suc i) zero d h k e = absurd (never_same w (get_or ps i []) (each_of (λ y. same w y ≡ false) ps (get_or ps i []) d.0 (In_at ps i [] (omega arith))) (sym e))
 distinct_same (w ∷ ps) (suc i) (suc j) d h k e = ap suc (distinct_same ps i j d.1 (omega arith) (omega arith) e)
 
 -- the numbers of the words in order

@@ -15,8 +15,6 @@ mod steps;
 mod table;
 #[cfg(test)]
 mod tests;
-#[cfg(test)]
-mod walk_tests;
 
 pub use boxes::{BoxList, SplitBox};
 pub use splitting::{Boxes, split};
