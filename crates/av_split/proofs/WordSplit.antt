@@ -81,18 +81,19 @@ same_child b i c k f h = get_or-set_same b i c free (omega (arith, f.count))
 pub other_child : (b : Box) (i j : ℕ) (c : Constraint) → (j ≡ i → ⊥) → child_of (set b i c) j ≡ child_of b j
 other_child b i j c n = get_or-set_other b i j c free n
 
+-- what holds of the constraint that is put there, and of those that stay
+pub changed_child : (P : Constraint → Type 0) (k : ℕ) (b : Box) (i j : ℕ) (c : Constraint) → Fine k b → i < k → (j ≡ i → P c) → P (child_of b j) → P (child_of (set b i c) j)
+changed_child P k b i j c f h g o = elim (cases_eq j i) [
+  | inl e ↦ subst (λ m. P (child_of (set b i c) m)) (sym e) (subst P (sym (same_child b i c k f h)) (g e))
+  | inr n ↦ subst P (sym (other_child b i j c n)) o
+]
+
 -- a box with a new constraint for one child
 changed_fine : (k : ℕ) (b : Box) (i : ℕ) (c : Constraint) → Fine k b → i < k → IsFit c → IsTidy c → Fine k (set b i c)
 changed_fine k b i c f h g t = record {
   count = length-set b i c ∙ f.count;
-  fit = λ j l. elim (cases_eq j i) [
-    | inl e ↦ subst (λ m. IsFit (child_of (set b i c) m)) (sym e) (subst IsFit (sym (same_child b i c k f h)) g)
-    | inr n ↦ subst IsFit (sym (other_child b i j c n)) (f.fit j l)
-  ];
-  tidy = λ j l. elim (cases_eq j i) [
-    | inl e ↦ subst (λ m. IsTidy (child_of (set b i c) m)) (sym e) (subst IsTidy (sym (same_child b i c k f h)) t)
-    | inr n ↦ subst IsTidy (sym (other_child b i j c n)) (f.tidy j l)
-  ];
+  fit = λ j l. changed_child IsFit k b i j c f h (λ e. g) (f.fit j l);
+  tidy = λ j l. changed_child IsTidy k b i j c f h (λ e. t) (f.tidy j l);
 }
 
 -- the rules at words are lawful
@@ -139,12 +140,8 @@ changed_lies k αs b i c X f h g = (
         ],
         here.1,
       ),
-  λ l j hj. elim (cases_eq j i) [
-    | inl e ↦
-        subst (λ m. Meets (child_of (set b i c) m).avoid (child_of (set b i c) m).require (block αs m)) (sym e)
-        (subst (λ (d : Constraint). Meets d.avoid d.require (block αs i)) (sym (same_child b i c k f h)) (g.1 (l.0 i h, l.1)))
-    | inr n ↦ subst (λ (d : Constraint). Meets d.avoid d.require (block αs j)) (sym (other_child b i j c n)) (l.0 j hj)
-  ],
+  λ l j hj.
+      changed_child (λ (d : Constraint). Meets d.avoid d.require (block αs j)) k b i j c f h (λ e. subst (λ m. Meets c.avoid c.require (block αs m)) (sym e) (g.1 (l.0 i h, l.1))) (l.0 j hj),
 )
 
 -- what lies in the region of a constraint with one more word

@@ -16,33 +16,32 @@ none_given None s = refl
 none_given (Some b) s = absurd (cc)
 
 pub next_step-from-requires-clause-cells : goal.next_step-from-requires-clause-cells
-next_step-from-requires-clause-cells c = walk_cells c.args.root.now c.args.name.now.avoid c.args.name.now.require c.args.table.now c.args.asked.now c.loop-rest.rest c.in-Some.current c.loop-rest.invariant.walk c.in-Some.is
+next_step-from-requires-clause-cells c = walk_cells _ _ _ _ _ _ _ c.loop-rest.invariant.walk c.in-Some.is
 
 pub advance-requires : goal.advance-requires
-advance-requires c = walk_step c.args.root.now c.args.name.now.avoid c.args.name.now.require c.args.table.now c.args.asked.now c.loop-rest.rest c.in-Some.current c.loop-rest.invariant.walk c.in-Some.is c.next_step-from.result.1 c.next_step-from.ensures.step
+advance-requires c = walk_step _ _ _ _ _ _ _ c.loop-rest.invariant.walk c.in-Some.is c.next_step-from.result.1 c.next_step-from.ensures.step
 
 pub returns-then-is_some-clause-walk : goal.returns-then-is_some-clause-walk
 returns-then-is_some-clause-walk c =
-    (walk_turn c.args.root.now c.args.name.now.avoid c.args.name.now.require c.args.table.now c.args.asked.now c.loop-rest.rest c.in-Some.current c.loop-rest.invariant.walk c.in-Some.is c.next_step-from.result.0 c.next_step-from.result.1 c.in_ok-found.next c.in_ok-found.found
+    (walk_turn _ _ _ _ _ _ _ c.loop-rest.invariant.walk c.in-Some.is c.next_step-from.result.0 c.next_step-from.result.1 c.in_ok-found.next c.in_ok-found.found
     c.next_step-from.ensures.within c.next_step-from.ensures.done c.next_step-from.ensures.step c.in_ok-found.ensures).walk
 
 pub returns-then-is_some-clause-takes : goal.returns-then-is_some-clause-takes
 returns-then-is_some-clause-takes c =
-    let t =
-    walk_turn c.args.root.now c.args.name.now.avoid c.args.name.now.require c.args.table.now c.args.asked.now c.loop-rest.rest c.in-Some.current c.loop-rest.invariant.walk c.in-Some.is c.next_step-from.result.0 c.next_step-from.result.1 c.in_ok-found.next c.in_ok-found.found
-    c.next_step-from.ensures.within c.next_step-from.ensures.done c.next_step-from.ensures.step c.in_ok-found.ensures
-    in
-    takes_given c.in_ok-found.found _ _ (sym c.is_some.ensures ∙ c.if-is_some.true) (c.loop-rest.invariant.left ∙ t.left)
+    takes_given c.in_ok-found.found _ _ (sym c.is_some.ensures ∙ c.if-is_some.true)
+    (c.loop-rest.invariant.left
+    ∙ (walk_turn _ _ _ _ _ _ _ c.loop-rest.invariant.walk c.in-Some.is c.next_step-from.result.0 c.next_step-from.result.1 c.in_ok-found.next c.in_ok-found.found c.next_step-from.ensures.within c.next_step-from.ensures.done c.next_step-from.ensures.step
+    c.in_ok-found.ensures).left)
 
 pub loop-rest-smaller : goal.loop-rest-smaller
 loop-rest-smaller c =
-    (walk_turn c.args.root.now c.args.name.now.avoid c.args.name.now.require c.args.table.now c.args.asked.now c.loop-rest.rest c.in-Some.current c.loop-rest.invariant.walk c.in-Some.is c.next_step-from.result.0 c.next_step-from.result.1 c.in_ok-found.next c.in_ok-found.found
+    (walk_turn _ _ _ _ _ _ _ c.loop-rest.invariant.walk c.in-Some.is c.next_step-from.result.0 c.next_step-from.result.1 c.in_ok-found.next c.in_ok-found.found
     c.next_step-from.ensures.within c.next_step-from.ensures.done c.next_step-from.ensures.step c.in_ok-found.ensures).less
 
 pub loop-rest-preserved : goal.loop-rest-preserved
 loop-rest-preserved c =
     let t =
-    walk_turn c.args.root.now c.args.name.now.avoid c.args.name.now.require c.args.table.now c.args.asked.now c.loop-rest.rest c.in-Some.current c.loop-rest.invariant.walk c.in-Some.is c.next_step-from.result.0 c.next_step-from.result.1 c.in_ok-found.next c.in_ok-found.found
+    walk_turn _ _ _ _ _ _ _ c.loop-rest.invariant.walk c.in-Some.is c.next_step-from.result.0 c.next_step-from.result.1 c.in_ok-found.next c.in_ok-found.found
     c.next_step-from.ensures.within c.next_step-from.ensures.done c.next_step-from.ensures.step c.in_ok-found.ensures
     in
     record {

@@ -1,1 +1,0 @@
--- The next part of a path.
