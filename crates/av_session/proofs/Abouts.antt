@@ -2,6 +2,7 @@
 use Rattle.std.proofs.Common.{◌≡◌, ℕ, suc, ◌≤◌, ◌↔◌, List, [], length, get_or, nat_le, Ok, All}
 use Rattle.std.proofs.lemmas.Bool.{and_parts}
 use Rattle.std.proofs.lemmas.List.Elements.{All-get_or}
+use Rattle.av_perm.specs.declared.limits.TheConstants.{MAX_LENGTH}
 use Rattle.av_perm.specs.Members.{IsListOf}
 use Rattle.av_perm.specs.Word.{is_word}
 use Rattle.av_perm.specs.Class.{minimal}
@@ -24,7 +25,7 @@ use Rattle.av_session.proofs.SolvedClasses.{done_to, done_from, too_large_to, to
 
 -- the words of a basis line are words
 pub are_words : (ws : List (List ℕ)) → All IsBasisWord ws → AreWords ws
-are_words ws all i h = let b = All-get_or IsBasisWord ws i [] h all in word_from (get_or ws i []) (and_parts (is_word (get_or ws i [])) (nat_le (length (get_or ws i [])) 160) b.word).0
+are_words ws all i h = let b = All-get_or IsBasisWord ws i [] h all in word_from (get_or ws i []) (and_parts (is_word (get_or ws i [])) (nat_le (length (get_or ws i [])) MAX_LENGTH) b.word).0
 
 -- of two bases that make the same class
 module _ (A B : List (List ℕ)) (same : (σ : List ℕ) → InClass A σ ↔ InClass B σ) where

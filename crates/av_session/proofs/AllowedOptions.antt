@@ -7,6 +7,7 @@ use Rattle.std.proofs.lemmas.Bool.{and_parts, leb-true}
 use Rattle.av_perm.specs.Lists.{same}
 use Rattle.av_text.specs.declared.kind.Kind.TheVariants.{BadNumber, Range}
 use Rattle.av_text.specs.Numerals.{is_numeral, number_in}
+use Rattle.av_session.specs.declared.options.TheConstants.{LEAST_MAX_SIMPLE, GREATEST_MAX_SIMPLE, DEFAULT_MAX_SIMPLE, GREATEST_MAX_SIZE, DEFAULT_MAX_SIZE}
 use Rattle.av_session.specs.declared.options.Chosen.{Chosen}
 use Rattle.av_session.specs.declared.options.Options.{Options}
 use Rattle.av_session.specs.Options.{cut, set_once, choose_max_simple, choose_max_size, choose, choose_all, nothing_chosen, with_defaults, options, AreInRanges, IsAllowed}
@@ -31,16 +32,16 @@ set_within low high (Some k) value = tt
 
 -- an option that is set keeps the ranges
 simple_within : (chosen : Chosen) (value : List ℕ) → AreInRanges chosen → IfSome (choose_max_simple chosen value) AreInRanges
-simple_within chosen value h = by (set_once 5 10 chosen.max_simple value) (set_within 5 10 chosen.max_simple value)
+simple_within chosen value h = by (set_once LEAST_MAX_SIMPLE GREATEST_MAX_SIMPLE chosen.max_simple value) (set_within LEAST_MAX_SIMPLE GREATEST_MAX_SIMPLE chosen.max_simple value)
   where
-    by : (o : Option ℕ) → IfSome o (λ n. (5 ≤ n) × (n ≤ 10)) → IfSome (option_map (λ k. record chosen { max_simple = Some k }) o) AreInRanges
+    by : (o : Option ℕ) → IfSome o (λ n. (LEAST_MAX_SIMPLE ≤ n) × (n ≤ GREATEST_MAX_SIMPLE)) → IfSome (option_map (λ k. record chosen { max_simple = Some k }) o) AreInRanges
     by None i = tt
     by (Some k) i = record { simple_low = i.0; simple_high = i.1; size_low = h.size_low; size_high = h.size_high }
 
 size_within : (chosen : Chosen) (value : List ℕ) → AreInRanges chosen → IfSome (choose_max_size chosen value) AreInRanges
-size_within chosen value h = by (set_once 1 65536 chosen.max_size value) (set_within 1 65536 chosen.max_size value)
+size_within chosen value h = by (set_once 1 GREATEST_MAX_SIZE chosen.max_size value) (set_within 1 GREATEST_MAX_SIZE chosen.max_size value)
   where
-    by : (o : Option ℕ) → IfSome o (λ n. (1 ≤ n) × (n ≤ 65536)) → IfSome (option_map (λ l. record chosen { max_size = Some l }) o) AreInRanges
+    by : (o : Option ℕ) → IfSome o (λ n. (1 ≤ n) × (n ≤ GREATEST_MAX_SIZE)) → IfSome (option_map (λ l. record chosen { max_size = Some l }) o) AreInRanges
     by None i = tt
     by (Some l) i = record { simple_low = h.simple_low; simple_high = h.simple_high; size_low = i.0; size_high = i.1 }
 
@@ -94,8 +95,8 @@ options_allowed words o e = by (choose_all words nothing_chosen) (all_within wor
     by (Some c) h e =
         let same : with_defaults c ≡ o = (let f : Some (with_defaults c) ≡ Some o = e in cc) in
         subst IsAllowed same (record {
-          low = default_low 5 8 c.max_simple (omega arith) h.simple_low;
-          high = default_high 10 8 c.max_simple (omega arith) h.simple_high;
-          some = default_low 1 20000 c.max_size (omega arith) h.size_low;
-          few = default_high 65536 20000 c.max_size (omega arith) h.size_high;
+          low = default_low LEAST_MAX_SIMPLE DEFAULT_MAX_SIMPLE c.max_simple (omega arith) h.simple_low;
+          high = default_high GREATEST_MAX_SIMPLE DEFAULT_MAX_SIMPLE c.max_simple (omega arith) h.simple_high;
+          some = default_low 1 DEFAULT_MAX_SIZE c.max_size (omega arith) h.size_low;
+          few = default_high GREATEST_MAX_SIZE DEFAULT_MAX_SIZE c.max_size (omega arith) h.size_high;
         })

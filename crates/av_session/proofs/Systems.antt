@@ -2,6 +2,7 @@
 use Rattle.std.proofs.Common.{◌≡◌, ℕ, suc, ◌≤◌, ◌↔◌, inl, inr, List, [], ◌∷◌, length, if◌then◌else◌, get_or, All, true, refl, sym, ap, subst, arith}
 use Rattle.std.proofs.lemmas.Bool.{le-ltb}
 use Rattle.std.proofs.lemmas.List.Elements.{All-get_or}
+use Rattle.av_perm.specs.declared.limits.TheConstants.{MAX_PATTERN_LENGTH, MAX_ROOT_LENGTH}
 use Rattle.av_perm.specs.Members.{In}
 use Rattle.av_perm.specs.Class.{minimal}
 use Rattle.av_perm.specs.Gap.{simples_below}
@@ -47,11 +48,11 @@ basis_of script k = record {
   short = λ i d h.
       let m = ((minimal_is script.basis (get_or (minimal script.basis) i d)).0 (In_at (minimal script.basis) i d h)).member in
       let p = at_In script.basis (get_or (minimal script.basis) i d) [] m in
-      subst (λ w. length w ≤ 12) p.2 (All-get_or IsBasisWord script.basis p.0 [] p.1 k.words).short;
+      subst (λ w. length w ≤ MAX_PATTERN_LENGTH) p.2 (All-get_or IsBasisWord script.basis p.0 [] p.1 k.words).short;
 }
 
 -- the simple words below a gap
-pub below_roots : (basis : List (List ℕ)) (g : ℕ) → suc g ≤ 10 → AreRoots (simples_below basis g)
+pub below_roots : (basis : List (List ℕ)) (g : ℕ) → suc g ≤ MAX_ROOT_LENGTH → AreRoots (simples_below basis g)
 below_roots basis g h w i = let b = ((below_list basis g).members w).0 i in (b.simple, omega (arith, b.short))
 
 -- the name of an equation was found
@@ -61,12 +62,12 @@ name_found (n ∷ found) [] e i = absurd i
 name_found (n ∷ found) (ts ∷ written) e (inl q) = inl (ap (λ (x : Equation). x.name) q)
 name_found (n ∷ found) (ts ∷ written) e (inr i) = inr (name_found found written e i)
 
--- words of at most twelve entries are those that the types hold
-are_perms : (ws : List (List ℕ)) → Each IsWord ws → Each (λ w. length w ≤ 12) ws → ArePerms ws
+-- words of at most MAX_PATTERN_LENGTH entries are those that the types hold
+are_perms : (ws : List (List ℕ)) → Each IsWord ws → Each (λ w. length w ≤ MAX_PATTERN_LENGTH) ws → ArePerms ws
 are_perms ws words short = each_all (λ w. is_perm w ≡ true) ws (λ w i. perm_to w (words w i) (omega (arith, short w i)))
 
 -- the names of what has grown are made of such words
-grown_names : (basis roots : List (List ℕ)) (j : ℕ) → AreWords basis → All (λ w. length w ≤ 12) basis → AreNamedByWords (as_system (grow basis roots j))
+grown_names : (basis roots : List (List ℕ)) (j : ℕ) → AreWords basis → All (λ w. length w ≤ MAX_PATTERN_LENGTH) basis → AreNamedByWords (as_system (grow basis roots j))
 grown_names basis roots j words short = each_all (λ e. IsMadeOfWords e.name) (as_system (grow basis roots j)).equations (λ e i. record {
   avoided = are_perms e.name.avoid (over e i).avoids (small e i).avoid;
   required = are_perms e.name.require (over e i).requires (small e i).require;
@@ -78,8 +79,8 @@ grown_names basis roots j words short = each_all (λ e. IsMadeOfWords e.name) (a
     over : (e : Equation) → In e (as_system (grow basis roots j)).equations → IsNameOver basis e.name
     over e i = grow_over roots (first_name basis) basis (first_name_ok basis words) j e.name (found e i)
 
-    small : (e : Equation) → In e (as_system (grow basis roots j)).equations → HasShortWords 12 e.name
-    small e i = grow_short basis roots (first_name basis) 12 j (first_short basis 12 words (all_each (λ w. length w ≤ 12) basis short)) e.name (found e i)
+    small : (e : Equation) → In e (as_system (grow basis roots j)).equations → HasShortWords MAX_PATTERN_LENGTH e.name
+    small e i = grow_short basis roots (first_name basis) MAX_PATTERN_LENGTH j (first_short basis MAX_PATTERN_LENGTH words (all_each (λ w. length w ≤ MAX_PATTERN_LENGTH) basis short)) e.name (found e i)
 
 -- a class has the same words as that of the minimal words of its basis
 exact_same : (A B : List (List ℕ)) (S : System) → ((σ : List ℕ) → InClass A σ ↔ InClass B σ) → Exact S A → Exact S B
@@ -119,7 +120,7 @@ writes_system words bytes o script class accepted said is = record {
     are : AreWords (minimal script.basis)
     are = minimal_words script.basis (are_words script.basis kept.words)
 
-    small : suc class.gap ≤ 10
+    small : suc class.gap ≤ MAX_ROOT_LENGTH
     small = let p = (gap_law.settled (minimal script.basis) o.max_simple class.gap).0 made.settled in omega (arith, p.within, (options_allowed words o accepted).high)
 
     canonical : IsCanonical (minimal script.basis) (simples_below (minimal script.basis) class.gap) o.max_size class.system

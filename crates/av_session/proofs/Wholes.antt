@@ -3,9 +3,11 @@ use Rattle.std.proofs.Common.{◌≡◌, ℕ, ◌<◌, ◌≤◌, ◌⊎◌, inl
 use Rattle.std.proofs.lemmas.Bool.{cases_lt, lt-ltb}
 use Rattle.std.specs.Io.KnownBytes.{IsAtEnd}
 use Rattle.av_perm.specs.Class.{minimal}
+use Rattle.av_text.specs.declared.limits.TheConstants.{MAX_SCRIPT_BYTES}
 use Rattle.av_text.specs.declared.script.Script.{Script}
 use Rattle.av_text.specs.declared.kind.Kind.TheVariants.{TooLong}
 use Rattle.av_text.specs.Read.{read, Fault}
+use Rattle.av_session.specs.declared.reading.TheConstants.{MOST_READ}
 use Rattle.av_session.specs.declared.options.Options.{Options}
 use Rattle.av_session.specs.declared.status.Status.{Status}
 use Rattle.av_session.specs.declared.status.Status.TheVariants as status
@@ -16,29 +18,29 @@ use Rattle.av_session.specs.Status.{HoldsText, FitsText, FitsRead, FitsScript}
 use Rattle.av_session.specs.Options.{options}
 use Rattle.av_session.specs.Runs.{due, Fits, Fits_of, ReadsWhole, IsComplete}
 
-too_long : (bytes : List ℕ) → 65536 < length bytes → read bytes ≡ Err (record { line = 0; kind = TooLong })
+too_long : (bytes : List ℕ) → MAX_SCRIPT_BYTES < length bytes → read bytes ≡ Err (record { line = 0; kind = TooLong })
 unfolding read
-too_long bytes h = rw (lt-ltb 65536 (length bytes) h) refl
+too_long bytes h = rw (lt-ltb MAX_SCRIPT_BYTES (length bytes) h) refl
 
-read_same : (all taken left : List ℕ) → all ≡ taken ++ left → length taken ≤ 65537 → (length taken < 65537 → left ≡ []) → read taken ≡ read all
-read_same all taken left e most end = elim (cases_lt (length taken) 65537) [
+read_same : (all taken left : List ℕ) → all ≡ taken ++ left → length taken ≤ MOST_READ → (length taken < MOST_READ → left ≡ []) → read taken ≡ read all
+read_same all taken left e most end = elim (cases_lt (length taken) MOST_READ) [
   | inl lt ↦ ap read (sym (append-nil taken) ∙ ap (λ t. taken ++ t) (sym (end lt)) ∙ sym e)
   | inr ge ↦ too_long taken (omega arith) ∙ sym (too_long all (omega (arith, ap length e, length-append taken left)))
 ]
 
 -- a script is read to the end of its source
-script_end : (taken : List ℕ) (new : Option (List ℕ)) (script : Script) → read taken ≡ Ok script → (length taken < 65537 → IsAtEnd new) → IsAtEnd new
-script_end taken new script e end = elim (cases_lt 65536 (length taken)) [
+script_end : (taken : List ℕ) (new : Option (List ℕ)) (script : Script) → read taken ≡ Ok script → (length taken < MOST_READ → IsAtEnd new) → IsAtEnd new
+script_end taken new script e end = elim (cases_lt MAX_SCRIPT_BYTES (length taken)) [
   | inl long ↦ absurd (let f : Err (record { line = 0; kind = TooLong }) ≡ Ok script = sym (too_long taken long) ∙ e in cc)
   | inr short ↦ end (omega arith)
 ]
 
-module _ (o : Options) (old new held held' : Option (List ℕ)) (taken : List ℕ) (t : TakesAll 65537 old new taken) (s : Status) where
+module _ (o : Options) (old new held held' : Option (List ℕ)) (taken : List ℕ) (t : TakesAll MOST_READ old new taken) (s : Status) where
   pub text_whole : HoldsText s held held' (text_due o taken) → IfSome old (λ bytes. HoldsText s held held' (text_due o bytes))
   unfolding text_due
   text_whole h = by old new t
     where
-      by : (old new : Option (List ℕ)) → TakesAll 65537 old new taken → IfSome old (λ bytes. HoldsText s held held' (text_of o (read bytes)))
+      by : (old new : Option (List ℕ)) → TakesAll MOST_READ old new taken → IfSome old (λ bytes. HoldsText s held held' (text_of o (read bytes)))
       by None new u = tt
       by (Some all) None u = absurd u.0
       by (Some all) (Some left) u = rw (← read_same all taken left u.0 u.1 u.2) h
@@ -46,7 +48,7 @@ module _ (o : Options) (old new held held' : Option (List ℕ)) (taken : List �
   pub fits_whole : FitsText s o taken → IfSome old (λ bytes. FitsText s o bytes)
   fits_whole h = by old new t
     where
-      by : (old new : Option (List ℕ)) → TakesAll 65537 old new taken → IfSome old (λ bytes. FitsRead s o (read bytes))
+      by : (old new : Option (List ℕ)) → TakesAll MOST_READ old new taken → IfSome old (λ bytes. FitsRead s o (read bytes))
       by None new u = tt
       by (Some all) None u = absurd u.0
       by (Some all) (Some left) u = rw (← read_same all taken left u.0 u.1 u.2) h

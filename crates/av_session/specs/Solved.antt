@@ -1,5 +1,6 @@
 -- What is known of a class within the limits.
 use Rattle.std.specs.Prelude.{◌≡◌, ℕ, ◌≤◌, List, length, All, nat_lt, if◌then◌else◌, Option, Some, None}
+use Rattle.av_perm.specs.declared.limits.TheConstants.{MAX_PATTERN_LENGTH}
 use Rattle.av_perm.specs.Class.{minimal}
 use Rattle.av_perm.specs.Gap.{simples_below}
 use Rattle.av_simple.specs.Searched.{Searched, gap_of}
@@ -10,10 +11,10 @@ use Rattle.av_session.specs.declared.solving.Solved.TheVariants.{Unsettled, TooL
 use Rattle.av_session.specs.declared.status.Status.{Status}
 use Rattle.av_session.specs.declared.status.Status.TheVariants as status
 
--- a list of minimal words, which are words of at most twelve entries
+-- a list of minimal words, which are words of at most MAX_PATTERN_LENGTH entries
 pub record IsBasis (basis : List (List ℕ)) : Type 0 where
   pub reduced : minimal basis ≡ basis
-  pub short : All (λ w. length w ≤ 12) basis
+  pub short : All (λ w. length w ≤ MAX_PATTERN_LENGTH) basis
 
 -- what has grown of the canonical system of a class with gap g, whose roots are the simple words below the gap, after as many
 -- equations as the limit says

@@ -6,7 +6,7 @@ ghost use Rattle.av_print.specs.Wrote.{AppendsPart};
 ghost use Rattle.av_print.specs.Text.{◌⊹◌, query_text};
 ghost use Rattle.av_text.specs.Queries.{IsInRange};
 ghost use Rattle.av_session.specs.Answers.{one_line, counts_text, rows_text, answer_text, length_needed};
-ghost use Rattle.av_session.specs.Serving.{Serves};
+ghost use Rattle.av_session.specs.Serving.{Serves, IsTableFor, greatest_needed};
 
 use crate::members::{CountsTo, Rows, member_count};
 use crate::ranks::{place_of, word_at};
@@ -15,7 +15,7 @@ use crate::stop::Stop;
 use av_count::Table;
 use av_decomp::tree;
 use av_io::{Sink, SureSink};
-use av_perm::Memory;
+use av_perm::{MAX_LENGTH, Memory};
 use av_print::{Bytes, Text};
 use av_text::{Queries, Query};
 use std::alloc::Global;
@@ -24,7 +24,7 @@ use std::alloc::Global;
 fn length_needed(query: &Query) -> usize
     requires { IsInRange query.now }
     ensures value { result ≡ length_needed query.now }
-    ensures few { result ≤ 160 }
+    ensures few { result ≤ MAX_LENGTH }
 {
     match query {
         Query::Count { n } | Query::Counts { n } => usize::from(*n),
@@ -36,8 +36,9 @@ fn length_needed(query: &Query) -> usize
 
 /// The greatest length that a query needs; 0 where none needs any.
 fn greatest_needed(queries: &Queries) -> usize
+    ensures value { result ≡ greatest_needed queries.now }
     ensures all { All (λ q. length_needed q ≤ result) queries.now }
-    ensures few { result ≤ 160 }
+    ensures few { result ≤ MAX_LENGTH }
 {
     let mut greatest: usize = 0;
     for query in queries.as_slice() {
@@ -46,13 +47,14 @@ fn greatest_needed(queries: &Queries) -> usize
     greatest
 }
 
-/// The numbers of the members of the class up to the greatest length that a query needs, where one needs any.
+/// The numbers of the members of the class up to the greatest length that a query needs; none where none needs any.
 fn table_for(
     alloc: Global,
     class: &SettledClass,
     queries: &Queries,
 ) -> Result<Option<Table>, Memory>
-    ensures { IfOk result (λ table. All (λ q. Serves class.now.system (length_needed q) table) queries.now) }
+    ensures made { IfOk result (IsTableFor class.now.system (greatest_needed queries.now)) }
+    ensures serves { IfOk result (λ table. All (λ q. Serves class.now.system (length_needed q) table) queries.now) }
 {
     match greatest_needed(queries) {
         0 => Ok(None),

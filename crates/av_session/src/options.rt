@@ -3,6 +3,8 @@ ghost use Rattle.std.specs.Prelude.{◌≡◌, ℕ, ◌≤◌, ◌<◌, List, ma
 ghost use Rattle.std.specs.List.{position};
 ghost use Rattle.av_session.specs.Options.{is_equals, cut, set_once, choose_max_simple, choose_max_size, choose, choose_all, nothing_chosen, with_defaults, options, AreInRanges, IsAllowed, GivesOptions};
 
+use av_build::MAX_SIZE;
+use av_perm::MAX_ROOT_LENGTH;
 use av_text::number_in;
 use std::alloc::Global;
 
@@ -10,13 +12,13 @@ use std::alloc::Global;
 pub const LEAST_MAX_SIMPLE: usize = 5;
 
 /// The greatest limit of these lengths.
-pub const GREATEST_MAX_SIMPLE: usize = 10;
+pub const GREATEST_MAX_SIMPLE: usize = MAX_ROOT_LENGTH;
 
 /// The limit of these lengths where no word sets it.
 pub const DEFAULT_MAX_SIMPLE: usize = 8;
 
 /// The greatest limit of the size of a system, its equations and terms together. The least is 1.
-pub const GREATEST_MAX_SIZE: usize = 65_536;
+pub const GREATEST_MAX_SIZE: usize = MAX_SIZE;
 
 /// The limit of the size where no word sets it.
 pub const DEFAULT_MAX_SIZE: usize = 20_000;
@@ -24,9 +26,9 @@ pub const DEFAULT_MAX_SIZE: usize = 20_000;
 /// What the words of the command line set.
 #[derive(Clone, Copy, Debug, PartialEq, Eq)]
 pub struct Options {
-    /// The greatest length at which simple words are searched, from 5 to 10.
+    /// The greatest length at which simple words are searched, from `LEAST_MAX_SIMPLE` to `GREATEST_MAX_SIMPLE`.
     pub max_simple: usize,
-    /// The greatest size of a system, its equations and terms together, from 1 to 65,536.
+    /// The greatest size of a system, its equations and terms together, from 1 to `GREATEST_MAX_SIZE`.
     pub max_size: usize,
 }
 

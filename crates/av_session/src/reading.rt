@@ -5,6 +5,7 @@ ghost use Rattle.av_io.specs.Causes.{Rose};
 ghost use Rattle.av_session.specs.Taken.{TakesAll, TakesUpTo};
 
 use av_io::Source;
+use av_text::MAX_SCRIPT_BYTES;
 use std::alloc::Global;
 
 /// Why the source wasn't read.
@@ -15,7 +16,7 @@ pub enum ReadError {
 }
 
 /// The most bytes that are read: one more than the longest script has.
-pub const MOST_READ: usize = 65_537;
+pub const MOST_READ: usize = MAX_SCRIPT_BYTES + 1;
 
 /// How many bytes are asked for at once.
 const CHUNK: usize = 4096;
@@ -42,7 +43,7 @@ fn read_some<S: Source>(
     }
 }
 
-/// The bytes of a source up to its end, or the first 65,537 where there are more.
+/// The bytes of a source up to its end, or the first `MOST_READ` where there are more.
 pub fn read_all<S: Source>(alloc: Global, source: &mut S) -> Result<Vec<u8>, ReadError>
     ensures taken { IfOk result (λ bytes. TakesAll MOST_READ (S.left source.old) (S.left source.new) bytes.items) }
     ensures took { TakesUpTo MOST_READ (S.left source.old) (S.left source.new) }

@@ -10,7 +10,7 @@ ghost use Rattle.av_session.specs.Solved.{IsBasis, grown_to, sized, solved, stat
 
 use crate::options::Options;
 use crate::status::Status;
-use av_build::{Built, build};
+use av_build::{Built, MAX_SIZE, build};
 use av_perm::{Memory, Words};
 use av_simple::{Found, Outcome, search};
 use av_sys::System;
@@ -110,7 +110,7 @@ fn roots_below(alloc: Global, found: &Found, gap: usize) -> Result<Words, Memory
     ensures value { IfOk result (λ roots. roots ≡ simples_below found.now.basis gap) }
     ensures roots { IfOk result AreRoots }
 {
-    // It tells that the gap is below 10.
+    // It tells that the gap is below `MAX_ROOT_LENGTH`.
     let _last = found.last();
     found.roots(alloc)
 }
@@ -120,7 +120,7 @@ fn sized(alloc: Global, found: Found, gap: usize, limit: usize) -> Result<Solved
     requires gap { gap_of found ≡ Some gap }
     requires basis { IsBasis found.basis }
     requires some { 1 ≤ limit }
-    requires few { limit ≤ 65536 }
+    requires few { limit ≤ MAX_SIZE }
     ensures { IfOk result (λ s. s ≡ sized found gap limit (grown_to found.basis gap limit)) }
 {
     let roots = roots_below(alloc, &found, gap)?;

@@ -2,7 +2,6 @@
 ghost use Rattle.std.specs.Prelude.{◌≡◌, ◌≤◌, OnOk, IsErrOf, flat_map};
 ghost use Rattle.std.specs.Io.KnownBytes.{Appends};
 ghost use Rattle.av_io.specs.Causes.{Rose};
-ghost use Rattle.av_sys.specs.Terms.{IsWellFormed};
 ghost use Rattle.av_print.specs.Wrote.{AppendsPart};
 ghost use Rattle.av_print.specs.Text.{◌⊹◌};
 ghost use Rattle.av_print.specs.Systems.{system_text};
@@ -106,7 +105,6 @@ fn put_too_large<K: Sink>(
 /// Writes the text of a system in one piece, which it gathers in memory first.
 #[tactic(auto, using(av_print::proofs::Written::written, av_print::proofs::WaitingTexts::waiting))]
 fn put_whole_system<K: Sink>(alloc: Global, sink: &mut K, system: &System) -> Result<(), SinkFault>
-    requires { IsWellFormed system.now }
     ensures whole { OnOk result (Appends (K.held sink.old) (K.held sink.new) (system_text system.now)) }
     ensures part { AppendsPart (K.held sink.old) (K.held sink.new) (system_text system.now) }
     ensures later { K.faults sink.old ≤ K.faults sink.new }

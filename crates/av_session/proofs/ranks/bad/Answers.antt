@@ -2,6 +2,7 @@
 use Rattle.std.proofs.Common.{◌≡◌, length, nat_le, true, Some, sym, ◌∙◌, ap, subst}
 use Rattle.std.specs.List.{slice_get}
 use Rattle.std.proofs.lemmas.Bool.{and_parts}
+use Rattle.av_perm.specs.declared.limits.TheConstants.{MAX_LENGTH}
 use Rattle.av_perm.specs.Word.{is_word}
 use Rattle.av_perm.specs.Class.{avoids_all}
 use Rattle.av_perm.proofs.WordTests.{word_from}
@@ -16,7 +17,7 @@ unreachable-requires c =
     let w = c.args.word.now in
     let basis = c.basis-basis.ensures ∙ ap (λ (f : Searched). f.basis) c.found.ensures in
     let all : avoids_all c.args.class.now.found.basis w ≡ true = subst (λ b. avoids_all b w ≡ true) basis c.in-None.ensures in
-    c.requires (record { word = word_from w (and_parts (is_word w) (nat_le (length w) 160) c.len-len.ensures.word).0; avoids = avoids_from c.args.class.now.found.basis w all })
+    c.requires (record { word = word_from w (and_parts (is_word w) (nat_le (length w) MAX_LENGTH) c.len-len.ensures.word).0; avoids = avoids_from c.args.class.now.found.basis w all })
 
 pub returns-in-Some : goal.returns-in-Some
 returns-in-Some c =
