@@ -26,7 +26,7 @@ use Rattle.av_split.specs.Laws.{IsTidy}
 use Rattle.av_split.specs.Marks.{unmarked, once, relates, IsSettled, constraint_of, box_of, free_mark}
 use Rattle.av_split.specs.Cells.{Pointwise, query_at, IsQueryOf, AreQueriesOf, IsDemandOf, AreDemandsOf, known_at, IsCellOf, HaveCellsOf, IsStep}
 use Rattle.av_split.specs.Walk.{IsRow, AreRows, IsOpen, AreCuts, IsPath, IsWalk, before, parts_left, parts_of, left_of, CanEnter, AreTurns, IsEntered, Either, GoesBack, Advances, CanStep}
-use Rattle.av_split.proofs.GenericSplit.{both_inside, both_outside, either_inside, either_outside, turned_open, open_count, Asks as IsAsked, asks, fewer, boxes_outside, boxes_inside, boxes_more}
+use Rattle.av_split.proofs.GenericSplit.{both_inside, both_outside, both_out, either_inside, either_outside, either_in, turned_open, open_count, Asks as IsAsked, asks, fewer, boxes_outside, boxes_inside, boxes_more}
 use Rattle.av_split.proofs.WordSplit.{Fine, Apt, word_law, demands_apt}
 use Rattle.av_split.proofs.MarkedRows.{row_fit, settled_is, settled_row, settled_known, free_row, free_is}
 
@@ -144,16 +144,6 @@ cell_query k ps ds es a d i cells j cell l =
 abbrev Passes : {A : Type 0} → Known → (A → Known) → (A → Known) → A → Type 0
 Passes k f g x = f x ≡ k → g x ≡ k
 
-both_out : (k : Known) → both k Outside ≡ Outside
-both_out Inside = refl
-both_out Outside = refl
-both_out Open = refl
-
-either_in : (k : Known) → either k Inside ≡ Inside
-either_in Inside = refl
-either_in Outside = refl
-either_in Open = refl
-
 all_pass : {A : Type 0} (k : Known) (f g : A → Known) (xs : List A) → (k ≡ Open → ⊥) → Each (Passes k f g) xs → all_of f xs ≡ k → all_of g xs ≡ k
 all_pass Inside f g [] n h e = refl
 all_pass Outside f g [] n h e = absurd (cc)
@@ -175,10 +165,7 @@ some_pass Inside f g (x ∷ xs) n h e = elim (either_inside (f x) (some_of f xs)
 ]
 
 turned_twice : (w : Bool) (k : Known) → turned w (turned w k) ≡ k
-turned_twice true k = refl
-turned_twice false Inside = refl
-turned_twice false Outside = refl
-turned_twice false Open = refl
+turned_twice w k = grind arith
 
 -- a demand, where that holds of its cells, as its kind turns it
 demand_pass : (k : Known) (f g : Cell → Known) (d : Demand Cell) → (k ≡ Open → ⊥) → ((m : List Cell) → In m d.embeddings → Each (Passes (turned d.required k) f g) m) → demand_known f d ≡ k → demand_known g d ≡ k
@@ -206,24 +193,10 @@ open_none f xs x e i o = outside_open (sym (outside_one f xs x i o) ∙ e)
 
 -- what is known stays known, and only what is required is found to be, or only what is avoided
 once_keeps : (r b : Bool) (k l : Known) → (l ≡ Open → ⊥) → k ≡ l → once r b k ≡ l
-once_keeps true true Inside l n e = e
-once_keeps true true Outside l n e = e
-once_keeps true true Open l n e = absurd (n (sym e))
-once_keeps true false k l n e = e
-once_keeps false true Inside l n e = e
-once_keeps false true Outside l n e = e
-once_keeps false true Open l n e = absurd (n (sym e))
-once_keeps false false k l n e = e
+once_keeps r b k l n e = grind arith
 
 once_other : (r b : Bool) (k : Known) → once r b k ≡ turned r Outside → k ≡ turned r Outside
-once_other true true Inside e = e
-once_other true true Outside e = e
-once_other true true Open e = absurd (cc)
-once_other true false k e = e
-once_other false true Inside e = e
-once_other false true Outside e = e
-once_other false true Open e = absurd (cc)
-once_other false false k e = e
+once_other r b k e = grind arith
 
 -- the rows once the pattern of a cell is settled
 module _ (r : Bool) (k : ℕ) (ps : List (List ℕ)) (rows next : List (List Mark)) (row : List Mark) (cell : Cell) (is : AreRows k ps rows) (h : cell.child < k) (g : cell.pattern < length ps) (word : IsWord (get_or ps cell.pattern []))

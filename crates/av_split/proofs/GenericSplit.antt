@@ -9,42 +9,28 @@ use Rattle.av_split.specs.Split.{both, either, turned, all_of, some_of, Demand, 
 
 -- Known facts are true
 pub both_inside : (x y : Known) → both x y ≡ Inside → (x ≡ Inside) × (y ≡ Inside)
-both_inside Inside y e = (refl, e)
-both_inside Outside y e = absurd (cc)
-both_inside Open Inside e = absurd (cc)
-both_inside Open Outside e = absurd (cc)
-both_inside Open Open e = absurd (cc)
+both_inside x y e = grind arith
 
 pub both_outside : (x y : Known) → both x y ≡ Outside → (x ≡ Outside) ⊎ (y ≡ Outside)
-both_outside Inside y e = inr e
-both_outside Outside y e = inl refl
-both_outside Open Inside e = absurd (cc)
-both_outside Open Outside e = inr refl
-both_outside Open Open e = absurd (cc)
+both_outside x y e = grind arith
 
 both_open : (x y : Known) → both x y ≡ Open → (x ≡ Open) ⊎ ((x ≡ Inside) × (y ≡ Open))
-both_open Inside y e = inr (refl, e)
-both_open Outside y e = absurd (cc)
-both_open Open y e = inl refl
+both_open x y e = grind arith
 
 pub either_inside : (x y : Known) → either x y ≡ Inside → (x ≡ Inside) ⊎ (y ≡ Inside)
-either_inside Inside y e = inl refl
-either_inside Outside y e = inr e
-either_inside Open Inside e = inr refl
-either_inside Open Outside e = absurd (cc)
-either_inside Open Open e = absurd (cc)
+either_inside x y e = grind arith
 
 pub either_outside : (x y : Known) → either x y ≡ Outside → (x ≡ Outside) × (y ≡ Outside)
-either_outside Inside y e = absurd (cc)
-either_outside Outside y e = (refl, e)
-either_outside Open Inside e = absurd (cc)
-either_outside Open Outside e = absurd (cc)
-either_outside Open Open e = absurd (cc)
+either_outside x y e = grind arith
 
 either_open : (x y : Known) → either x y ≡ Open → (x ≡ Open) ⊎ ((x ≡ Outside) × (y ≡ Open))
-either_open Inside y e = absurd (cc)
-either_open Outside y e = inr (refl, e)
-either_open Open y e = inl refl
+either_open x y e = grind arith
+
+pub both_out : (k : Known) → both k Outside ≡ Outside
+both_out k = grind arith
+
+pub either_in : (k : Known) → either k Inside ≡ Inside
+either_in k = grind arith
 
 -- what is known of all, or of some, is known of each, or of one
 pub each_inside : {A : Type 0} (f : A → Known) (xs : List A) → all_of f xs ≡ Inside → Each (λ x. f x ≡ Inside) xs
@@ -115,9 +101,7 @@ demands_say : {Q : Type 0} (f : Q → Known) (H : Q → Type 0) (ds : List (Dema
 demands_say {Q = Q} f H ds s = all_says (demand_known f) (Met H) ds (λ (d : Demand Q) i. demand_says f H d (λ m j q k. s q (query_In ds d m q i j k)))
 
 pub unflipped : (k : Known) → turned false k ≡ Inside → k ≡ Outside
-unflipped Inside e = absurd (cc)
-unflipped Outside e = refl
-unflipped Open e = absurd (cc)
+unflipped k e = grind arith
 
 -- the next query
 abbrev pub Finds : {X : Type 0} → Option X → (X → Type 0) → Type 0
@@ -138,10 +122,7 @@ finds_in_some f g Good (x ∷ xs) h e = elim (either_open (f x) (some_of f xs) e
 ]
 
 pub turned_open : (w : Bool) (k : Known) → turned w k ≡ Open → k ≡ Open
-turned_open true k e = e
-turned_open false Inside e = absurd (cc)
-turned_open false Outside e = absurd (cc)
-turned_open false Open e = refl
+turned_open w k e = grind arith
 
 pub next_finds : {Q : Type 0} (f : Q → Known) (ds : List (Demand Q)) → demands_known f ds ≡ Open → Finds (next_query f ds) (λ q. (f q ≡ Open) × In q (queries_of ds))
 next_finds {Q = Q} f ds e =
@@ -163,19 +144,13 @@ open_count f [] = 0
 open_count f (q ∷ qs) = open_one (f q) + open_count f qs
 
 open_one_le : (k : Known) → open_one k ≤ 1
-open_one_le Open = omega arith
-open_one_le Inside = omega arith
-open_one_le Outside = omega arith
+open_one_le k = grind arith
 
 open_one_mono : (k l : Known) → (k ≡ Open → l ≡ Open) → open_one k ≤ open_one l
-open_one_mono Open l h = let e : open_one l ≡ 1 = ap open_one (h refl) in omega arith
-open_one_mono Inside l h = omega arith
-open_one_mono Outside l h = omega arith
+open_one_mono k l h = grind arith
 
 open_one_none : (k : Known) → (k ≡ Open → ⊥) → open_one k ≡ 0
-open_one_none Open h = absurd (h refl)
-open_one_none Inside h = refl
-open_one_none Outside h = refl
+open_one_none k h = grind arith
 
 pub open_count_length : {Q : Type 0} (f : Q → Known) (qs : List Q) → open_count f qs ≤ length qs
 open_count_length f [] = omega arith

@@ -190,20 +190,13 @@ row_fit ps row i = record { avoid = i.avoid; require = i.require; long = i.long 
 
 -- what the next mark tells
 next_tells : (r itself t : Bool) (m : Mark) → (next_mark r itself t m).known ≡ once r t m.known
-next_tells true itself true m = refl
-next_tells true itself false m = refl
-next_tells false itself true m = refl
-next_tells false itself false m = refl
+next_tells r itself t m = grind arith
 
 both_true : (a b : Bool) → (a && b) ≡ true → (a ≡ true) × (b ≡ true)
-both_true true b e = (refl, e)
-both_true false b e = absurd (cc)
+both_true a b e = grind arith
 
 side_is : (r r' : Bool) → is_side r' (once r true Unknown) ≡ true → r' ≡ r
-side_is true true e = refl
-side_is true false e = absurd (cc)
-side_is false true e = absurd (cc)
-side_is false false e = refl
+side_is r r' e = grind arith
 
 -- which marks are those of words of the constraint
 next_from : (r r' itself t : Bool) (m : Mark) → (itself ≡ true → m.known ≡ Unknown) → is_named r' (next_mark r itself t m) ≡ true → ((itself ≡ true) × (r' ≡ r)) ⊎ ((t ≡ false) × (is_named r' m ≡ true))

@@ -10,7 +10,7 @@ use Rattle.av_split.specs.declared.steps.Step.TheVariants.{Holds, Fails, Asks}
 use Rattle.std.proofs.Math.ListN.{drop_of_length-le}
 use Rattle.std.proofs.lemmas.Bool.{cases_lt}
 use Rattle.av_split.specs.Split.{Demand, both, either, turned, all_of, some_of, at_open, first_open}
-use Rattle.av_split.proofs.GenericSplit.{both_inside}
+use Rattle.av_split.proofs.GenericSplit.{both_inside, both_out, either_in}
 use Rattle.av_split.specs.Cells.{IsStep, IsFirst, or_cell, step_or, turned_step}
 
 -- what the items gone through tell together where none fails, by the first open cell
@@ -56,11 +56,7 @@ all_holds f g found xs rest x e s = record {
 -- an item that fails decides
 pub all_fails : {A : Type 0} (f : A → Known) (g : A → Option Cell) (found : Option Cell) (xs rest : List A) (x : A) → f x ≡ Outside
     → AllSo f g found xs (x ∷ rest) → all_of f xs ≡ Outside
-all_fails f g found xs rest x e s = s.known ∙ ap (λ k. both (known_so found) (both k (all_of f rest))) e ∙ by found
-  where
-    by : (found : Option Cell) → both (known_so found) Outside ≡ Outside
-    by None = refl
-    by (Some cell) = refl
+all_fails f g found xs rest x e s = s.known ∙ ap (λ k. both (known_so found) (both k (all_of f rest))) e ∙ both_out (known_so found)
 
 -- the first open one is kept
 pub all_asks : {A : Type 0} (f : A → Known) (g : A → Option Cell) (found : Option Cell) (xs rest : List A) (x : A) (cell : Cell) → f x ≡ Open → g x ≡ Some cell
@@ -71,14 +67,10 @@ all_asks f g found xs rest x cell e q s = record {
 }
   where
     by : (found : Option Cell) (k : Known) → both (known_so found) (both Open k) ≡ both (known_so (or_cell found cell)) k
-    by None k = refl
-    by (Some c) Inside = refl
-    by (Some c) Outside = refl
-    by (Some c) Open = refl
+    by found k = grind arith
 
     or : (found : Option Cell) → or_else found (Some cell) ≡ or_else (or_cell found cell) (first_open f g rest)
-    or None = refl
-    or (Some c) = refl
+    or found = grind arith
 
 -- at the end
 pub all_end : {A : Type 0} (f : A → Known) (g : A → Option Cell) (found : Option Cell) (xs : List A) → AllSo f g found xs []
@@ -97,11 +89,7 @@ some_fails f g found xs rest x e s = record {
 -- an item that holds decides
 pub some_holds : {A : Type 0} (f : A → Known) (g : A → Option Cell) (found : Option Cell) (xs rest : List A) (x : A) → f x ≡ Inside
     → SomeSo f g found xs (x ∷ rest) → some_of f xs ≡ Inside
-some_holds f g found xs rest x e s = s.known ∙ ap (λ k. either (some_so found) (either k (some_of f rest))) e ∙ by found
-  where
-    by : (found : Option Cell) → either (some_so found) Inside ≡ Inside
-    by None = refl
-    by (Some cell) = refl
+some_holds f g found xs rest x e s = s.known ∙ ap (λ k. either (some_so found) (either k (some_of f rest))) e ∙ either_in (some_so found)
 
 -- the first open one is kept
 pub some_asks : {A : Type 0} (f : A → Known) (g : A → Option Cell) (found : Option Cell) (xs rest : List A) (x : A) (cell : Cell) → f x ≡ Open → g x ≡ Some cell
@@ -112,14 +100,10 @@ some_asks f g found xs rest x cell e q s = record {
 }
   where
     by : (found : Option Cell) (k : Known) → either (some_so found) (either Open k) ≡ either (some_so (or_cell found cell)) k
-    by None k = refl
-    by (Some c) Inside = refl
-    by (Some c) Outside = refl
-    by (Some c) Open = refl
+    by found k = grind arith
 
     or : (found : Option Cell) → or_else found (Some cell) ≡ or_else (or_cell found cell) (first_open f g rest)
-    or None = refl
-    or (Some c) = refl
+    or found = grind arith
 
 -- at the end
 pub some_end : {A : Type 0} (f : A → Known) (g : A → Option Cell) (found : Option Cell) (xs : List A) → SomeSo f g found xs []
@@ -170,11 +154,7 @@ all_more {A = A} f xs i n x d h e q a k = ap (λ m. all_of f (take m xs)) (q ∙
 
 -- an item that is not broken is passed over, and one that is breaks all
 both_broken : (x y : Known) → (x ≡ Outside → ⊥) → (both x y ≡ Outside) ↔ (y ≡ Outside)
-both_broken Inside y n = (λ e. e, λ e. e)
-both_broken Outside y n = absurd (n refl)
-both_broken Open Inside n = (λ e. absurd (cc), λ e. absurd (cc))
-both_broken Open Outside n = (λ e. refl, λ e. refl)
-both_broken Open Open n = (λ e. absurd (cc), λ e. absurd (cc))
+both_broken x y n = (λ e. grind arith, λ e. grind arith)
 
 abbrev pub Breaks : {A : Type 0} → (A → Known) → List A → List A → Type 0
 Breaks f xs ys = (all_of f xs ≡ Outside) ↔ (all_of f ys ≡ Outside)
@@ -208,9 +188,7 @@ drop_tail (x ∷ xs) (suc n) y ys e = drop_tail xs n y ys e
 
 -- the step of all, by that of the first item that doesn't hold
 both_open_whole : (k : Known) → (k ≡ Outside → ⊥) → both Open k ≡ Open
-both_open_whole Inside n = refl
-both_open_whole Outside n = absurd (n refl)
-both_open_whole Open n = refl
+both_open_whole k n = grind arith
 
 module _ (f : Demand Cell → Known) (g : Demand Cell → Option Cell) (xs : List (Demand Cell)) (n : ℕ) (done : all_of f (take n xs) ≡ Inside) where
   pub all_done : IsFirst Holds f g (drop n xs) → all_of f xs ≡ Inside

@@ -53,14 +53,7 @@ added_tidy false c p o t = record { minimal = minimal_again (p ∷ c.avoid); max
 
 -- what is open then was open before, and was not told of
 pub once_open : (r b : Bool) (k : Known) → once r b k ≡ Open → (k ≡ Open) × (b ≡ false)
-once_open true true Open e = absurd (cc)
-once_open true true Inside e = absurd (cc)
-once_open true true Outside e = absurd (cc)
-once_open true false k e = (e, refl)
-once_open false true Open e = absurd (cc)
-once_open false true Inside e = absurd (cc)
-once_open false true Outside e = absurd (cc)
-once_open false false k e = (e, refl)
+once_open r b k e = grind arith
 
 -- boxes with `k` children
 pub record Fine (k : ℕ) (b : Box) : Type 0 where
