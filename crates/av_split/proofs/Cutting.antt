@@ -237,8 +237,7 @@ module _ (r : Bool) (k : ℕ) (ps : List (List ℕ)) (rows next : List (List Mar
   ]
     where
       none : (r : Bool) (k : Known) → k ≡ once r false k
-      none true k = refl
-      none false k = refl
+      none r k = grind arith
 
 -- how many steps a box with n open queries takes at most
 abbrev weight : ℕ → ℕ

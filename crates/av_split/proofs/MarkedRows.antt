@@ -206,11 +206,7 @@ next_from r r' itself true m h e =
 next_from r r' itself false m h e = inr (refl, e)
 
 next_itself : (r : Bool) (m : Mark) → m.known ≡ Unknown → is_named r (next_mark r true true m) ≡ true
-next_itself r m e = ap (λ k. is_side r (once r true k)) e ∙ by r
-  where
-    by : (r : Bool) → is_side r (once r true Unknown) ≡ true
-    by true = refl
-    by false = refl
+next_itself r m e = grind arith
 
 -- what is known once a pattern is settled
 pub settled_known : (r : Bool) (ps : List (List ℕ)) (n : ℕ) (row next : List Mark) → IsSettled r ps n row next → (i : ℕ) → i < length ps
@@ -298,5 +294,4 @@ free_row ps = row_of ps (map free_mark ps) free (free_is ps) (length-map ps free
     (λ i h. ap (λ (m : Mark). m.known) (get_or-map free_mark ps i [] unmarked h) ∙ of (length (get_or ps i []) == 1))
   where
     of : (b : Bool) → cond b Inside Unknown ≡ known_by (b || false) false
-    of true = refl
-    of false = refl
+    of b = grind arith

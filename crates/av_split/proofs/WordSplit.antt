@@ -19,7 +19,7 @@ use Rattle.av_embed.proofs.EmbeddingList.{embedding_from, embedding_to}
 use Rattle.av_sys.specs.declared.names.Constraint.{Constraint}
 use Rattle.av_sys.specs.Names.{Meets}
 use Rattle.av_name.specs.declared.constraints.Known.{Known}
-use Rattle.av_name.specs.declared.constraints.Known.TheVariants.{In as Inside, Out as Outside, Open}
+use Rattle.av_name.specs.declared.constraints.Known.TheVariants.{Open}
 use Rattle.av_name.specs.Constraints.{free, answer}
 use Rattle.av_name.proofs.Answered.{inside_says, outside_says, outside_is, free_meets}
 use Rattle.av_name.proofs.Growth.{IsFit, avoid_fit, require_fit, answer_avoid, answer_require, meets_avoid, meets_require, clean_avoid, clean_require}
