@@ -1,0 +1,14 @@
+pub mod Products
+pub mod Skips
+pub mod SizeSteps
+pub mod Shapes
+pub mod Steps
+pub mod Rooms
+pub mod Choosing
+pub mod Placing
+pub mod WordLaws
+pub mod Writing
+pub mod NextEntry
+pub mod Listings
+pub mod Sieved
+pub mod Taken

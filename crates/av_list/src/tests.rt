@@ -1,0 +1,122 @@
+// Lists that are known.
+ghost use Rattle.std.specs.Prelude.{◌≡◌, ◌≤◌, IfOk, drop, take};
+ghost use Rattle.av_sys.specs.TreeLists.{members};
+ghost use Rattle.av_list.specs.Items.{items_from};
+
+use crate::{Lister, Sieve};
+use av_count::Table;
+use av_perm::{Memory, Perm, Words};
+use av_sys::{Children, Equation, Equations, Name, Sign, System, Term, Terms};
+use std::alloc::Global;
+
+// The word with these entries, or the word 1.
+fn word(entries: &[u8]) -> Perm {
+    Perm::from_entries(entries).unwrap_or(Perm::one())
+}
+
+// Adds a root with two children of equation 0.
+fn push_node(alloc: Global, terms: &mut Terms, root: &[u8]) -> Result<(), Memory> {
+    let mut children = Children::empty(alloc);
+    children.push(0)?;
+    children.push(0)?;
+    terms.push(Term::Node {
+        root: word(root),
+        children,
+    })
+}
+
+// One equation: a point, 12 or 21 of two of its trees.
+fn binary(alloc: Global) -> Result<System, Memory> {
+    let mut terms = Terms::empty(alloc);
+    terms.push(Term::Point)?;
+    push_node(alloc, &mut terms, &[1, 2])?;
+    push_node(alloc, &mut terms, &[2, 1])?;
+    let mut equations = Equations::empty(alloc);
+    equations.push(Equation {
+        name: Name {
+            sign: Sign::C,
+            avoid: Words::empty(alloc),
+            require: Words::empty(alloc),
+        },
+        terms,
+    })?;
+    Ok(System { equations })
+}
+
+// At most so many items from a rank on: how a `for` goes over a lister.
+fn first_items(
+    alloc: Global,
+    system: &System,
+    table: &Table,
+    n: usize,
+    from: u128,
+    many: usize,
+) -> Result<Vec<(u128, Perm)>, Memory>
+    requires stands { table.now.system ≡ system.now }
+    requires least { 1 ≤ n }
+    requires most { n ≤ table.now.largest }
+    ensures { IfOk result (λ all. all.items ≡ take many (items_from from (drop from (members system.now n)))) }
+{
+    let mut all = Vec::new(alloc);
+    for item in Lister::new(alloc, system, table, n, from)?.take(many) {
+        if all.push(item).is_err() {
+            return Err(Memory);
+        }
+    }
+    Ok(all)
+}
+
+#[test]
+fn the_next_word_comes_across_children_sizes_and_terms(rt: HostRuntime) -> Result<(), Memory> {
+    let system = binary(rt.alloc())?;
+    if system.check() {
+        let table = Table::new(rt.alloc(), &system, 3)?;
+        let mut lister = Lister::new(rt.alloc(), &system, &table, 3, 1)?;
+        assert!(rt; lister.next() == Some((1, word(&[1, 3, 2]))));
+        assert!(rt; lister.next() == Some((2, word(&[1, 2, 3]))));
+        assert!(rt; lister.next() == Some((3, word(&[2, 1, 3]))));
+        assert!(rt; lister.next() == Some((4, word(&[3, 1, 2]))));
+        assert_eq!(rt; first_items(rt.alloc(), &system, &table, 3, 3, 9)?.len(), 5);
+    } else {
+        assert!(rt; false);
+    }
+    Ok(())
+}
+
+#[test]
+fn a_list_ends_at_the_last_tree_and_at_the_greatest_rank(rt: HostRuntime) -> Result<(), Memory> {
+    let system = binary(rt.alloc())?;
+    if system.check() {
+        let table = Table::new(rt.alloc(), &system, 60)?;
+        assert_eq!(rt; first_items(rt.alloc(), &system, &table, 3, 7, 9)?.len(), 1);
+        assert_eq!(rt; first_items(rt.alloc(), &system, &table, 3, 8, 9)?.len(), 0);
+        assert_eq!(rt;
+            first_items(rt.alloc(), &system, &table, 3, u128::MAX, 9)?.len(),
+            0
+        );
+        assert_eq!(rt;
+            first_items(rt.alloc(), &system, &table, 60, u128::MAX, 9)?.len(),
+            1
+        );
+    } else {
+        assert!(rt; false);
+    }
+    Ok(())
+}
+
+#[test]
+fn a_sieve_gives_what_is_kept_with_its_ranks(rt: HostRuntime) -> Result<(), Memory> {
+    let system = binary(rt.alloc())?;
+    if system.check() {
+        let table = Table::new(rt.alloc(), &system, 3)?;
+        let lister = Lister::new(rt.alloc(), &system, &table, 3, 0)?;
+        let kept = word(&[1, 2, 3]);
+        let mut sieve = Sieve::new(lister, move |shown: &Perm| *shown == kept);
+        assert!(rt; sieve.next() == Some((0, word(&[1, 2, 3]))));
+        assert!(rt; sieve.next() == Some((2, word(&[1, 2, 3]))));
+        assert!(rt; sieve.next() == None);
+    } else {
+        assert!(rt; false);
+    }
+    Ok(())
+}
