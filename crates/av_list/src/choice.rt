@@ -10,7 +10,7 @@ ghost use Rattle.av_list.specs.Vertices.{vertices_from, vertices_after, same_aft
 ghost use Rattle.av_list.specs.Derivations.{Sound};
 ghost use Rattle.av_list.specs.Picked.{TermFound, Begins, Picked};
 
-use crate::sizes::{first_sizes, next_sizes};
+use crate::sizes::{NodeTerm, first_sizes, next_sizes};
 use crate::vertex::{Sizes, Vertex};
 use av_count::{Count, Table, term, terms};
 use av_sys::{System, Term};
@@ -84,17 +84,13 @@ fn first_of_term(
         },
         Term::Node { children, .. } => {
             let mut sizes = Sizes::empty();
-            let left = first_sizes(
+            let node = NodeTerm {
                 table,
                 children,
                 equation,
-                term_number,
-                0,
-                size,
-                factor,
-                r,
-                &mut sizes,
-            );
+                term: term_number,
+            };
+            let left = first_sizes(&node, 0, size, factor, r, &mut sizes);
             Pick {
                 vertex: Vertex {
                     equation,
@@ -209,15 +205,13 @@ fn next_same(system: &System, table: &Table, vertex: Vertex) -> Option<Vertex>
         Term::Point => None,
         Term::Node { children, .. } => {
             let mut sizes = vertex.sizes;
-            if next_sizes(
+            let node = NodeTerm {
                 table,
                 children,
-                vertex.equation,
-                vertex.term,
-                0,
-                vertex.size,
-                &mut sizes,
-            ) {
+                equation: vertex.equation,
+                term: vertex.term,
+            };
+            if next_sizes(&node, 0, vertex.size, &mut sizes) {
                 return Some(Vertex {
                     equation: vertex.equation,
                     term: vertex.term,

@@ -2,7 +2,7 @@
 use Rattle.std.proofs.Common.{◌≡◌, ◌<◌, ◌*◌, ℕ, length, subst, sym, ap, arith, ◌∙◌, get_or, Some, ◌++◌, List}
 use Rattle.av_sys.specs.declared.terms.System.{System}
 use Rattle.av_sys.specs.declared.terms.Term.TheVariants.{Node}
-use Rattle.av_sys.specs.Terms.{term_at}
+use Rattle.av_sys.specs.Terms.{terms_at, term_at, children_of}
 use Rattle.av_perm.specs.Lists.{size_lists}
 use Rattle.av_count.specs.Choices.{ways}
 use Rattle.av_sys.specs.TreeLists.{count_at}
@@ -13,14 +13,23 @@ use Rattle.av_list.specs.Picked.{Begins}
 use Rattle.av_list.proofs.Choosing.{begins_point, begins_node}
 use Rattle.av_list.proofs.choice.first_of_term.Goals as goal
 
-pub first_sizes-left-requires-clause-known : goal.first_sizes-left-requires-clause-known
-first_sizes-left-requires-clause-known c k lt =
+pub invariant_of-node-clause-term_known : goal.invariant_of-node-clause-term_known
+invariant_of-node-clause-term_known c =
+    subst (λ (S : System). c.args.term_number < length (terms_at S c.args.equation)) (sym c.requires.stands) c.requires.term_number
+
+pub invariant_of-node-clause-node : goal.invariant_of-node-clause-node
+invariant_of-node-clause-node c =
+    subst (λ (S : System). children_of (term_at S c.args.equation c.args.term_number) ≡ c.in-Node.children) (sym c.requires.stands)
+    (ap children_of (c.term.ensures ∙ ap Some c.in-Node.is))
+
+pub invariant_of-node-clause-known : goal.invariant_of-node-clause-known
+invariant_of-node-clause-known c k lt =
     let e = c.term.ensures ∙ ap Some c.in-Node.is in
     subst (λ (S : System). get_or c.in-Node.children k 0 < length S.equations) (sym c.requires.stands)
     ((node_form c.args.system.now c.args.equation c.args.term_number c.in-Node.root c.in-Node.children c.requires.formed e).known k lt)
 
-pub first_sizes-left-requires-clause-ten : goal.first_sizes-left-requires-clause-ten
-first_sizes-left-requires-clause-ten c =
+pub invariant_of-node-clause-ten : goal.invariant_of-node-clause-ten
+invariant_of-node-clause-ten c =
     (node_form c.args.system.now c.args.equation c.args.term_number c.in-Node.root c.in-Node.children c.requires.formed (c.term.ensures ∙ ap Some c.in-Node.is)).ten
 
 -- the place lies among the trees of the term, as the table counts them

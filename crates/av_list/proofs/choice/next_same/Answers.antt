@@ -1,7 +1,7 @@
 -- The next sizes make the next vertex with the same term.
 use Rattle.std.proofs.Common.{◌≡◌, ◌<◌, length, subst, sym, ap, arith, ◌∙◌, get_or, Some}
 use Rattle.av_sys.specs.declared.terms.System.{System}
-use Rattle.av_sys.specs.Terms.{children_of}
+use Rattle.av_sys.specs.Terms.{terms_at, term_at, children_of}
 use Rattle.av_sys.specs.TreeLists.{count_at}
 use Rattle.av_count.proofs.NodeForms.{node_form}
 use Rattle.av_list.specs.Sizes.{Firsts, weighed, weight, sizes_after}
@@ -10,11 +10,24 @@ use Rattle.av_list.specs.Picked.{Picked}
 use Rattle.av_list.proofs.Choosing.{whole_some, picked_same, same_ended}
 use Rattle.av_list.proofs.choice.next_same.Goals as goal
 
-pub next_sizes-requires-clause-known : goal.next_sizes-requires-clause-known
-next_sizes-requires-clause-known c k lt =
+pub invariant_of-node-clause-term_known : goal.invariant_of-node-clause-term_known
+invariant_of-node-clause-term_known c =
+    subst (λ (S : System). c.args.vertex.term < length (terms_at S c.args.vertex.equation)) (sym c.requires.stands) c.requires.sound.term
+
+pub invariant_of-node-clause-node : goal.invariant_of-node-clause-node
+invariant_of-node-clause-node c =
+    subst (λ (S : System). children_of (term_at S c.args.vertex.equation c.args.vertex.term) ≡ c.in-Node.children) (sym c.requires.stands)
+    (ap children_of (c.term.ensures ∙ ap Some c.in-Node.is))
+
+pub invariant_of-node-clause-known : goal.invariant_of-node-clause-known
+invariant_of-node-clause-known c k lt =
     let e = c.term.ensures ∙ ap Some c.in-Node.is in
     subst (λ (S : System). get_or c.in-Node.children k 0 < length S.equations) (sym c.requires.stands)
     ((node_form c.args.system.now c.args.vertex.equation c.args.vertex.term c.in-Node.root c.in-Node.children c.requires.formed e).known k lt)
+
+pub invariant_of-node-clause-ten : goal.invariant_of-node-clause-ten
+invariant_of-node-clause-ten c =
+    (node_form c.args.system.now c.args.vertex.equation c.args.vertex.term c.in-Node.root c.in-Node.children c.requires.formed (c.term.ensures ∙ ap Some c.in-Node.is)).ten
 
 pub next_sizes-requires-clause-sum : goal.next_sizes-requires-clause-sum
 next_sizes-requires-clause-sum c =

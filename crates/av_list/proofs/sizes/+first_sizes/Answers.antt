@@ -8,39 +8,24 @@ use Rattle.av_list.proofs.sizes.+first_sizes.Goals as goal
 
 pub returns-then-i-len : goal.returns-then-i-len
 returns-then-i-len t c F h lt =
-    none_at (count_at c.args.table.now.system) c.args.children.now c.args.i c.args.size F c.args.r c.args.sizes.now (omega (arith, c.if-i-len.true, c.len-len.ensures)) lt
+    none_at (count_at c.args.node.now.table.now.system) c.args.node.now.children.now c.args.i c.args.size F c.args.r c.args.sizes.now (omega (arith, c.if-i-len.true, c.len-len.ensures)) lt
 
 pub first_sizes-requires : goal.first_sizes-requires
 first_sizes-requires t c =
-    let S = c.args.table.now.system in
+    let S = c.args.node.now.table.now.system in
     let w = c.requires.within in
     let s = c.first_size-cut.ensures w.0 w.1 w.2 in
-    let e = child_is c.args.children.now c.args.i c.get.result.now c.get.ensures in
-    let less : c.args.i < length c.args.children.now = omega (arith, c.if-i-len.false, c.len-len.ensures, c.requires.i) in
-    let l = subst (λ z. c.first_size-cut.result.left < w.0 * count_at c.args.table.now.system z c.first_size-cut.result.at * ways (count_at c.args.table.now.system) (drop (c.args.i + 1) c.args.children.now) (c.args.size - c.first_size-cut.result.at)) e s.within in (
+    let e = child_is c.args.node.now.children.now c.args.i c.get.result.now c.get.ensures in
+    let less : c.args.i < length c.args.node.now.children.now = omega (arith, c.if-i-len.false, c.len-len.ensures, c.requires.i) in
+    let l = subst (λ z. c.first_size-cut.result.left < w.0 * count_at c.args.node.now.table.now.system z c.first_size-cut.result.at * ways (count_at c.args.node.now.table.now.system) (drop (c.args.i + 1) c.args.node.now.children.now) (c.args.size - c.first_size-cut.result.at)) e s.within in (
       omega (arith, c.decreases, less),
       (
-        c.requires.equation,
+        omega (arith, less),
         (
-          c.requires.term_number,
+          omega (arith, c.requires.most),
           (
-            c.requires.node,
-            (
-              c.requires.known,
-              (
-                c.requires.ten,
-                (
-                  omega (arith, less),
-                  (
-                    omega (arith, c.requires.most),
-                    (
-                      omega (arith, ap length c.push.ensures, length-append c.args.sizes.now (c.first_size-cut.result.at ∷ []), c.requires.placed),
-                      (w.0 * count_at S c.get.result.now c.first_size-cut.result.at, c.times.ensures w.0 (count_at S c.get.result.now c.first_size-cut.result.at) w.1 c.get-number.ensures, l),
-                    ),
-                  ),
-                ),
-              ),
-            ),
+            omega (arith, ap length c.push.ensures, length-append c.args.sizes.now (c.first_size-cut.result.at ∷ []), c.requires.placed),
+            (w.0 * count_at S c.get.result.now c.first_size-cut.result.at, c.times.ensures w.0 (count_at S c.get.result.now c.first_size-cut.result.at) w.1 c.get-number.ensures, l),
           ),
         ),
       ),
@@ -48,12 +33,12 @@ first_sizes-requires t c =
 
 pub returns : goal.returns
 returns t c F h lt =
-    let S = c.args.table.now.system in
-    let cs = c.args.children.now in
+    let S = c.args.node.now.table.now.system in
+    let cs = c.args.node.now.children.now in
     let T = count_at S c.get.result.now c.first_size-cut.result.at in
     let s = c.first_size-cut.ensures F h lt in
     let e = child_is cs c.args.i c.get.result.now c.get.ensures in
-    let l = subst (λ z. c.first_size-cut.result.left < F * count_at c.args.table.now.system z c.first_size-cut.result.at * ways (count_at c.args.table.now.system) (drop (c.args.i + 1) c.args.children.now) (c.args.size - c.first_size-cut.result.at)) e s.within in
+    let l = subst (λ z. c.first_size-cut.result.left < F * count_at c.args.node.now.table.now.system z c.first_size-cut.result.at * ways (count_at c.args.node.now.table.now.system) (drop (c.args.i + 1) c.args.node.now.children.now) (c.args.size - c.first_size-cut.result.at)) e s.within in
     let less : c.args.i < length cs = omega (arith, c.if-i-len.false, c.len-len.ensures, c.requires.i) in
     let r = c.first_sizes.ensures (F * T) (c.times.ensures F T h c.get-number.ensures) l in
     first_at (count_at S) cs c.args.i c.get.result.now c.args.size F c.args.r c.first_size-cut.result.left c.first_size-cut.result.at c.first_sizes.result

@@ -5,4 +5,4 @@ use Rattle.av_sys.specs.TreeLists.{count_at}
 use Rattle.av_list.proofs.sizes.search_size.Given as goal
 
 abbrev pub invariant-loop-below : goal.invariant-loop-below
-invariant-loop-below l = ahead (count_at l.table.system (get_or l.children l.i 0)) (ways (count_at l.table.system) (drop (l.i + 1) l.children)) l.size l.least (l.below + 1 - l.least) ≡ 0
+invariant-loop-below l = ahead (count_at l.node.table.now.system (get_or l.node.children.now l.i 0)) (ways (count_at l.node.table.now.system) (drop (l.i + 1) l.node.children.now)) l.size l.least (l.below + 1 - l.least) ≡ 0
