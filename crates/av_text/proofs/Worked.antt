@@ -2,6 +2,7 @@
 use Rattle.std.proofs.Common.{◌≡◌, ℕ, List, [], ◌∷◌, ◌++◌, map, take, refl, Result, Ok, Err, codes}
 use Rattle.std.specs.List.{repeat}
 use Rattle.av_perm.specs.Lists.{counting}
+use Rattle.av_perm.specs.declared.StatKind.TheVariants as stat
 use Rattle.av_text.specs.declared.kind.Kind.{Kind}
 use Rattle.av_text.specs.declared.kind.Kind.TheVariants.{NoBasis, BadWord, LongWord, ManyWords, UnknownQuery, BadNumber, Range, BadByte, SecondBasis}
 use Rattle.av_text.specs.declared.queries.Query.{Query}
@@ -10,7 +11,7 @@ use Rattle.av_text.specs.declared.script.Script.{Script}
 use Rattle.av_text.specs.Lines.{script_lines, tokens}
 use Rattle.av_text.specs.Numerals.{is_digits, is_numeral, number_in}
 use Rattle.av_text.specs.Words.{is_comma_form, entries_of, checked_word, word_in}
-use Rattle.av_text.specs.Queries.{form_named, query_with_one, query_with_two, query_with_three, query_with_five, query_with, query_of}
+use Rattle.av_text.specs.Queries.{form_named, statistic_named, query_with_one, query_with_two, query_with_three, query_with_four, query_with_five, query_with, query_of}
 use Rattle.av_text.specs.Read.{Fault, basis_words, basis_said, tokens_said, line_said, lines_said, read}
 
 -- a fault at a line
@@ -50,6 +51,16 @@ table =
     ∷ (codes "basis 132\nunrank 3 340282366920938463463374607431768211455\nrank 2,1,3", script (w132 ∷ []) (query.Unrank 3 340282366920938463463374607431768211455 ∷ query.Rank (2 ∷ 1 ∷ 3 ∷ []) ∷ []))
     ∷ (codes "basis 132\nunrank 3 340282366920938463463374607431768211456", fault 2 Range)
     ∷ (codes "basis 132\nlist 3 for 2 from 1", fault 2 UnknownQuery)
+    ∷ (codes "basis 132\ndraw 3 0 2\ndraw 160 18446744073709551615 100000", script (w132 ∷ []) (query.Draw 3 0 2 ∷ query.Draw 160 18446744073709551615 100000 ∷ []))
+    ∷ (codes "basis 132\ndraw 3 18446744073709551616 2", fault 2 Range)
+    ∷ (codes "basis 132\ndraw 3 0 100001", fault 2 Range)
+    ∷ (codes "basis 132\ndraw 3 0 0", fault 2 Range)
+    ∷ (codes "basis 132\ndraw 3 0", fault 2 UnknownQuery)
+    ∷ (codes "basis 132\ndraw 0 x 1", fault 2 Range)
+    ∷ (codes "basis 132\ndraw x 0 0", fault 2 BadNumber)
+    ∷ (codes "basis 132\ndrawstat inv 3 0 2\ndrawstat des 3 1 4\ndrawstat lrm 1 2 3", script (w132 ∷ []) (query.DrawStat stat.Inv 3 0 2 ∷ query.DrawStat stat.Des 3 1 4 ∷ query.DrawStat stat.Lrm 1 2 3 ∷ []))
+    ∷ (codes "basis 132\ndrawstat maj 0 x 1", fault 2 UnknownQuery)
+    ∷ (codes "basis 132\ndrawstat inv 161 0 2", fault 2 Range)
     ∷ (codes "basis 132\ncount x", fault 2 BadNumber)
     ∷ (codes "basis 132\ncount 07", fault 2 BadNumber)
     ∷ (codes "basis 132\ncount 0", fault 2 Range)
@@ -66,7 +77,7 @@ table =
 
 -- each text of the table is what it says
 pub each_is_so : map (λ row. read row.0) table ≡ map (λ row. row.1) table
-unfolding read lines_said line_said tokens_said basis_said basis_words word_in entries_of checked_word is_digits is_numeral is_comma_form script_lines tokens query_of query_with query_with_one query_with_two query_with_three query_with_five form_named number_in
+unfolding read lines_said line_said tokens_said basis_said basis_words word_in entries_of checked_word is_digits is_numeral is_comma_form script_lines tokens query_of query_with query_with_one query_with_two query_with_three query_with_four query_with_five form_named statistic_named number_in
 each_is_so = refl
 
 -- the first text, cut after each number of bytes
@@ -83,5 +94,5 @@ cuts =
 
 -- each cut is what the list says
 pub each_cut_is_so : map (λ k. read (take k (codes "basis 132\ncount 7\n"))) (counting 0 19) ≡ cuts
-unfolding read lines_said line_said tokens_said basis_said basis_words word_in entries_of checked_word is_digits is_numeral is_comma_form script_lines tokens query_of query_with query_with_one query_with_two query_with_three query_with_five form_named number_in
+unfolding read lines_said line_said tokens_said basis_said basis_words word_in entries_of checked_word is_digits is_numeral is_comma_form script_lines tokens query_of query_with query_with_one query_with_two query_with_three query_with_four query_with_five form_named statistic_named number_in
 each_cut_is_so = refl

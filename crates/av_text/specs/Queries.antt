@@ -1,11 +1,13 @@
 -- The queries of a script.
 use Rattle.std.specs.Prelude.{ℕ, ◌-◌, ◌^◌, ◌<◌, ◌≤◌, Bool, ◌&&◌, if◌then◌else◌, List, [], ◌∷◌, Option, find, Result, Ok, Err, ok_or, codes, IsTrue}
+use Rattle.av_perm.specs.declared.StatKind.{StatKind}
+use Rattle.av_perm.specs.declared.StatKind.TheVariants as stat
 use Rattle.av_perm.specs.declared.limits.TheConstants.{MAX_LENGTH}
 use Rattle.av_perm.specs.Lists.{same}
 use Rattle.av_perm.specs.Word.{is_perm}
 use Rattle.av_text.specs.declared.kind.Kind.{Kind}
 use Rattle.av_text.specs.declared.kind.Kind.TheVariants.{UnknownQuery}
-use Rattle.av_text.specs.declared.limits.TheConstants.{MAX_LISTED, DEFAULT_LISTED}
+use Rattle.av_text.specs.declared.limits.TheConstants.{MAX_LISTED, DEFAULT_LISTED, MAX_DRAWN}
 use Rattle.av_text.specs.declared.queries.Form.{Form}
 use Rattle.av_text.specs.declared.queries.Form.TheVariants as form
 use Rattle.av_text.specs.declared.queries.Query.{Query}
@@ -22,10 +24,12 @@ form_name form.List = codes "list"
 form_name form.Unrank = codes "unrank"
 form_name form.Rank = codes "rank"
 form_name form.Tree = codes "tree"
+form_name form.Draw = codes "draw"
+form_name form.DrawStat = codes "drawstat"
 
 -- all forms
 abbrev pub forms : List Form
-forms = form.Count ∷ form.Counts ∷ form.List ∷ form.Unrank ∷ form.Rank ∷ form.Tree ∷ []
+forms = form.Count ∷ form.Counts ∷ form.List ∷ form.Unrank ∷ form.Rank ∷ form.Tree ∷ form.Draw ∷ form.DrawStat ∷ []
 
 -- the form that a token names
 unfoldable pub form_named : List ℕ → Option Form
@@ -53,6 +57,38 @@ IsListed k = (1 ≤ k) × (k ≤ MAX_LISTED)
 abbrev pub listed_in : List ℕ → Result ℕ Kind
 listed_in t = number_in 1 MAX_LISTED t
 
+-- a seed
+abbrev pub IsSeed : ℕ → Type 0
+IsSeed s = s < 2 ^ 64
+
+abbrev pub seed_in : List ℕ → Result ℕ Kind
+seed_in t = number_in 0 (2 ^ 64 - 1) t
+
+-- how many words are drawn
+abbrev pub IsDrawn : ℕ → Type 0
+IsDrawn k = (1 ≤ k) × (k ≤ MAX_DRAWN)
+
+abbrev pub drawn_in : List ℕ → Result ℕ Kind
+drawn_in t = number_in 1 MAX_DRAWN t
+
+-- the token that names a statistic
+abbrev pub statistic_name : StatKind → List ℕ
+statistic_name stat.Inv = codes "inv"
+statistic_name stat.Des = codes "des"
+statistic_name stat.Lrm = codes "lrm"
+
+-- all statistics
+abbrev pub statistics : List StatKind
+statistics = stat.Inv ∷ stat.Des ∷ stat.Lrm ∷ []
+
+-- the statistic that a token names
+unfoldable pub statistic_named : List ℕ → Option StatKind
+statistic_named t = find (λ k. same (statistic_name k) t) statistics
+
+-- where none is named, the line has no form of a query
+abbrev pub statistic_in : List ℕ → Result StatKind Kind
+statistic_in t = ok_or (statistic_named t) UnknownQuery
+
 -- the tokens before a rank, and before a number of words
 abbrev pub is_from : List ℕ → Bool
 is_from t = same t (codes "from")
@@ -77,7 +113,7 @@ query_with_one form.Rank a = do
 query_with_one form.Tree a = do
   w ← word_in MAX_LENGTH a
   Ok (query.Tree w)
-query_with_one form.Unrank a = Err UnknownQuery
+query_with_one _ a = Err UnknownQuery
 
 -- with two
 unfoldable pub query_with_two : Form → List ℕ → List ℕ → Result Query Kind
@@ -98,7 +134,22 @@ query_with_three form.List a b c =
       n ← length_in a
       k ← listed_in c
       Ok (query.List n 0 k)) else Err UnknownQuery)
+query_with_three form.Draw a b c = do
+  n ← length_in a
+  s ← seed_in b
+  k ← drawn_in c
+  Ok (query.Draw n s k)
 query_with_three _ a b c = Err UnknownQuery
+
+-- with four
+unfoldable pub query_with_four : Form → List ℕ → List ℕ → List ℕ → List ℕ → Result Query Kind
+query_with_four form.DrawStat a b c d = do
+  t ← statistic_in a
+  n ← length_in b
+  s ← seed_in c
+  k ← drawn_in d
+  Ok (query.DrawStat t n s k)
+query_with_four _ a b c d = Err UnknownQuery
 
 -- with five
 unfoldable pub query_with_five : Form → List ℕ → List ℕ → List ℕ → List ℕ → List ℕ → Result Query Kind
@@ -116,6 +167,7 @@ unfoldable pub query_with : Form → List (List ℕ) → Result Query Kind
 query_with f (a ∷ []) = query_with_one f a
 query_with f (a ∷ b ∷ []) = query_with_two f a b
 query_with f (a ∷ b ∷ c ∷ []) = query_with_three f a b c
+query_with f (a ∷ b ∷ c ∷ d ∷ []) = query_with_four f a b c d
 query_with f (a ∷ b ∷ c ∷ d ∷ e ∷ []) = query_with_five f a b c d e
 query_with f _ = Err UnknownQuery
 
@@ -133,3 +185,5 @@ IsInRange (query.List n r k) = IsLength n × IsRank r × IsListed k
 IsInRange (query.Unrank n r) = IsLength n × IsRank r
 IsInRange (query.Rank w) = IsTrue (is_perm w)
 IsInRange (query.Tree w) = IsTrue (is_perm w)
+IsInRange (query.Draw n s k) = IsLength n × IsSeed s × IsDrawn k
+IsInRange (query.DrawStat t n s k) = IsLength n × IsSeed s × IsDrawn k

@@ -15,6 +15,8 @@
 //! | `unrank N R` | a query: the word of length N and rank R |
 //! | `rank W` | a query: the rank of the word W of at most 160 entries |
 //! | `tree W` | a query: how the word W of at most 160 entries is put together from simple ones |
+//! | `draw N S K` | a query: K words of length N drawn by the seed S, for S from 0 to 2^64 - 1 and K from 1 to 100,000 |
+//! | `drawstat T N S K` | a query: the least, the greatest and the sum of the statistic T, which is `inv`, `des` or `lrm`, over these words |
 //! | no token, or a first token that begins with `#` | nothing |
 //!
 //! A word is written by its digits, as `213`, or as two or more numerals of at most three digits joined by commas, as
@@ -36,14 +38,16 @@ mod numerals;
 mod queries;
 mod says;
 mod script;
+mod statistics;
 mod tokens;
 mod words;
 
 pub use kind::Kind;
-pub use limits::{DEFAULT_LISTED, MAX_BASIS_WORDS, MAX_LISTED, MAX_SCRIPT_BYTES};
+pub use limits::{DEFAULT_LISTED, MAX_BASIS_WORDS, MAX_DRAWN, MAX_LISTED, MAX_SCRIPT_BYTES};
 pub use numerals::number_in;
 pub use queries::{Form, Query};
 pub use script::{Queries, Script, ScriptError, read_script};
+pub use statistics::statistic_name;
 
 #[cfg(test)]
 mod tests;

@@ -11,3 +11,6 @@ pub const MAX_LISTED: u32 = 1_000_000;
 
 /// How many words a query lists at most where it doesn't say so.
 pub const DEFAULT_LISTED: u32 = 1_000;
+
+/// The most words that a query draws.
+pub const MAX_DRAWN: u32 = 100_000;

@@ -1,13 +1,14 @@
 // Queries.
 ghost use Rattle.std.specs.Prelude.{◌≡◌, ◌≤◌, map, IfOk};
 ghost use Rattle.av_perm.specs.Lists.{same};
-ghost use Rattle.av_text.specs.Queries.{form_name, form_named, IsLength, IsRank, IsListed, length_in, rank_in, listed_in, is_from, is_for, query_with_one, query_with_two, query_with_three, query_with_five, query_with, query_of, IsInRange};
+ghost use Rattle.av_text.specs.Queries.{form_name, form_named, IsLength, IsRank, IsListed, IsSeed, IsDrawn, length_in, rank_in, listed_in, seed_in, drawn_in, is_from, is_for, query_with_one, query_with_two, query_with_three, query_with_four, query_with_five, query_with, query_of, IsInRange};
 
 use crate::Kind;
-use crate::limits::{DEFAULT_LISTED, MAX_LISTED};
+use crate::limits::{DEFAULT_LISTED, MAX_DRAWN, MAX_LISTED};
 use crate::numerals::number_in;
+use crate::statistics::statistic_in;
 use crate::words::word_in;
-use av_perm::{MAX_LENGTH, Perm};
+use av_perm::{MAX_LENGTH, Perm, StatKind};
 
 /// The forms of a query, each named by its first token.
 #[derive(Clone, Copy, Debug, PartialEq, Eq)]
@@ -25,6 +26,10 @@ pub enum Form {
     Rank,
     /// `tree W`, with W a word of at most 160 entries.
     Tree,
+    /// `draw N S K`, with N from 1 to 160, S from 0 to 2^64 - 1 and K from 1 to 100,000.
+    Draw,
+    /// `drawstat T N S K`, with T one of `inv`, `des` and `lrm`, and N, S and K as in `draw`.
+    DrawStat,
 }
 
 /// A question about the class of the words that avoid the basis.
@@ -66,15 +71,37 @@ pub enum Query {
         /// The word, of length 1 to 160.
         word: Perm,
     },
+    /// Words of length `n` of the class, drawn by a seed.
+    Draw {
+        /// The length, from 1 to 160.
+        n: u8,
+        /// The seed.
+        seed: u64,
+        /// How many are drawn, from 1 to 100,000.
+        many: u32,
+    },
+    /// The least, the greatest and the sum of a statistic over words of length `n` of the class, drawn by a seed.
+    DrawStat {
+        /// The statistic.
+        kind: StatKind,
+        /// The length, from 1 to 160.
+        n: u8,
+        /// The seed.
+        seed: u64,
+        /// How many are drawn, from 1 to 100,000.
+        many: u32,
+    },
 }
 
-const FORMS: [Form; 6] = [
+const FORMS: [Form; 8] = [
     Form::Count,
     Form::Counts,
     Form::List,
     Form::Unrank,
     Form::Rank,
     Form::Tree,
+    Form::Draw,
+    Form::DrawStat,
 ];
 
 impl Form {
@@ -89,6 +116,8 @@ impl Form {
             Form::Unrank => b"unrank",
             Form::Rank => b"rank",
             Form::Tree => b"tree",
+            Form::Draw => b"draw",
+            Form::DrawStat => b"drawstat",
         }
     }
 
@@ -122,6 +151,22 @@ fn listed_in(token: &[u8]) -> Result<u32, Kind>
     ensures range { IfOk result IsListed }
 {
     Ok(number_in(token, 1, MAX_LISTED as u128)? as u32)
+}
+
+/// A seed.
+fn seed_in(token: &[u8]) -> Result<u64, Kind>
+    ensures value { result ≡ seed_in token.now }
+    ensures range { IfOk result IsSeed }
+{
+    Ok(number_in(token, 0, u64::MAX as u128)? as u64)
+}
+
+/// How many words are drawn.
+fn drawn_in(token: &[u8]) -> Result<u32, Kind>
+    ensures value { result ≡ drawn_in token.now }
+    ensures range { IfOk result IsDrawn }
+{
+    Ok(number_in(token, 1, MAX_DRAWN as u128)? as u32)
 }
 
 /// Whether a rank stands after the token.
@@ -194,6 +239,28 @@ fn query_with_three(form: Form, a: &[u8], b: &[u8], c: &[u8]) -> Result<Query, K
             start: 0,
             many: listed_in(c)?,
         }),
+        Form::Draw => Ok(Query::Draw {
+            n: length_in(a)?,
+            seed: seed_in(b)?,
+            many: drawn_in(c)?,
+        }),
+        _ => Err(Kind::UnknownQuery),
+    }
+}
+
+/// The query of a form with four arguments.
+#[tactic(auto, unfolding(crate::specs::Queries::query_with_four))]
+fn query_with_four(form: Form, a: &[u8], b: &[u8], c: &[u8], d: &[u8]) -> Result<Query, Kind>
+    ensures value { result ≡ query_with_four form a.now b.now c.now d.now }
+    ensures range { IfOk result IsInRange }
+{
+    match form {
+        Form::DrawStat => Ok(Query::DrawStat {
+            kind: statistic_in(a)?,
+            n: length_in(b)?,
+            seed: seed_in(c)?,
+            many: drawn_in(d)?,
+        }),
         _ => Err(Kind::UnknownQuery),
     }
 }
@@ -231,6 +298,7 @@ fn query_with(form: Form, arguments: &[&[u8]]) -> Result<Query, Kind>
         [a] => query_with_one(form, a),
         [a, b] => query_with_two(form, a, b),
         [a, b, c] => query_with_three(form, a, b, c),
+        [a, b, c, d] => query_with_four(form, a, b, c, d),
         [a, b, c, d, e] => query_with_five(form, a, b, c, d, e),
         _ => Err(Kind::UnknownQuery),
     }

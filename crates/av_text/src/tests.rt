@@ -1,7 +1,7 @@
 use super::*;
 
 /// Texts that are refused, each with the line and the kind of its fault.
-static REFUSED: [(&str, u32, Kind); 86] = [
+static REFUSED: [(&str, u32, Kind); 88] = [
     // No basis line.
     ("", 0, Kind::NoBasis),
     ("\n", 0, Kind::NoBasis),
@@ -76,7 +76,9 @@ static REFUSED: [(&str, u32, Kind); 86] = [
     ("basis 132\nlist 3 for 2 from 1", 2, Kind::UnknownQuery),
     ("basis 132\nlist x from 2 for", 2, Kind::UnknownQuery),
     ("basis 132\nunrank 3", 2, Kind::UnknownQuery),
-    ("basis 132\ndraw 3 1 1", 2, Kind::UnknownQuery),
+    ("basis 132\ndraw 3 1", 2, Kind::UnknownQuery),
+    ("basis 132\ndrawstat maj 0 x 1", 2, Kind::UnknownQuery),
+    ("basis 132\ndraw 3 18446744073709551616 0", 2, Kind::Range),
     // Arguments that are no number.
     ("basis 132\ncount x", 2, Kind::BadNumber),
     ("basis 132\ncount 07", 2, Kind::BadNumber),
