@@ -7,7 +7,7 @@ use Rattle.av_decomp.specs.RootTrees.{RootTrees, none, more, RootTree}
 use Rattle.av_text.specs.declared.queries.Form.TheVariants as form
 use Rattle.av_text.specs.declared.queries.Query.{Query}
 use Rattle.av_text.specs.declared.queries.Query.TheVariants as query
-use Rattle.av_text.specs.Queries.{form_name}
+use Rattle.av_text.specs.Queries.{form_name, statistic_name}
 
 -- one text, and then another
 infixr 65 ◌⊹◌
@@ -50,6 +50,8 @@ query_tokens (query.List n r k) = form_name form.List ∷ decimal n ∷ codes "f
 query_tokens (query.Unrank n r) = form_name form.Unrank ∷ decimal n ∷ decimal r ∷ []
 query_tokens (query.Rank w) = form_name form.Rank ∷ word_text w ∷ []
 query_tokens (query.Tree w) = form_name form.Tree ∷ word_text w ∷ []
+query_tokens (query.Draw n s k) = form_name form.Draw ∷ decimal n ∷ decimal s ∷ decimal k ∷ []
+query_tokens (query.DrawStat t n s k) = form_name form.DrawStat ∷ statistic_name t ∷ decimal n ∷ decimal s ∷ decimal k ∷ []
 
 -- the canonical text of a query
 unfoldable pub query_text : Query → List ℕ

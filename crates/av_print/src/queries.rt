@@ -9,7 +9,8 @@ use crate::bytes::{Bytes, put};
 use crate::numbers::Number;
 use crate::text::Text;
 use av_io::{Sink, SinkFault};
-use av_text::{Form, Query};
+use av_perm::StatKind;
+use av_text::{Form, Query, statistic_name};
 
 /// Texts with a single space between each two.
 #[derive(Clone, Copy)]
@@ -32,6 +33,15 @@ impl<A: Text, B: Text, C: Text> Text for Spaced<(A, B, C)> {
     }
 }
 
+impl<A: Text, B: Text, C: Text, D: Text> Text for Spaced<(A, B, C, D)> {
+    ghost text = { λ texts. A.text texts.0.0 ++ (codes " " ++ (B.text texts.0.1 ++ (codes " " ++ (C.text texts.0.2 ++ (codes " " ++ D.text texts.0.3))))) };
+
+    fn put_on<K: Sink>(&self, sink: &mut K) -> Result<(), SinkFault> {
+        let last = Spaced((&self.0.2, &self.0.3));
+        Spaced((&self.0.0, &self.0.1, last)).put_on(sink)
+    }
+}
+
 /// A form's text is its name.
 impl Text for Form {
     ghost use Rattle.av_text.specs.Queries.{form_name};
@@ -40,6 +50,17 @@ impl Text for Form {
 
     fn put_on<K: Sink>(&self, sink: &mut K) -> Result<(), SinkFault> {
         put(sink, self.name())
+    }
+}
+
+/// A statistic's text is its name.
+impl Text for StatKind {
+    ghost use Rattle.av_text.specs.Queries.{statistic_name};
+
+    ghost text = { statistic_name };
+
+    fn put_on<K: Sink>(&self, sink: &mut K) -> Result<(), SinkFault> {
+        put(sink, statistic_name(*self))
     }
 }
 
@@ -65,6 +86,19 @@ pub fn put_query<K: Sink>(sink: &mut K, query: &Query) -> Result<(), SinkFault>
         Query::Unrank { n, r } => Spaced((Form::Unrank, n, Number(*r))).put_on(sink),
         Query::Rank { word } => Spaced((Form::Rank, word)).put_on(sink),
         Query::Tree { word } => Spaced((Form::Tree, word)).put_on(sink),
+        Query::Draw { n, seed, many } => {
+            let draws = Spaced((Number(u128::from(*seed)), Number(u128::from(*many))));
+            Spaced((Form::Draw, n, draws)).put_on(sink)
+        }
+        Query::DrawStat {
+            kind,
+            n,
+            seed,
+            many,
+        } => {
+            let draws = Spaced((Number(u128::from(*seed)), Number(u128::from(*many))));
+            Spaced((Form::DrawStat, kind, n, draws)).put_on(sink)
+        }
     }
 }
 

@@ -6,7 +6,7 @@ use av_count::Count;
 use av_decomp::tree;
 use av_io::{MemSink, Sink, SinkFault, SureSink};
 use av_match::find;
-use av_perm::{Perm, Words};
+use av_perm::{Perm, StatKind, Words};
 use av_sys::{Children, Equation, Equations, Name, Sign, System, Term, Terms};
 use av_text::Query;
 use std::alloc::Global;
@@ -89,10 +89,28 @@ fn canonical_texts_of_queries(rt: HostRuntime) -> Result<(), Fail> {
     )?;
     put_line(&mut sink, Query::Rank { word: word.copy() })?;
     put_line(&mut sink, Query::Tree { word })?;
+    put_line(
+        &mut sink,
+        Query::Draw {
+            n: 3,
+            seed: u64::MAX,
+            many: 2,
+        },
+    )?;
+    put_line(
+        &mut sink,
+        Query::DrawStat {
+            kind: StatKind::Lrm,
+            n: 160,
+            seed: 0,
+            many: 100_000,
+        },
+    )?;
     assert_eq!(rt;
         sink.bytes(),
         &b"count 7\ncounts 160\nlist 5 from 2 for 1000000\n\
-           unrank 10 340282366920938463463374607431768211455\nrank 213\ntree 213\n"[..]
+           unrank 10 340282366920938463463374607431768211455\nrank 213\ntree 213\n\
+           draw 3 18446744073709551615 2\ndrawstat lrm 160 0 100000\n"[..]
     );
     Ok(())
 }
