@@ -1,6 +1,7 @@
 -- The answers about the members of a settled class are those of the class.
-use Rattle.std.proofs.Common.{◌≡◌, ◌↔◌, ℕ, suc, ◌≤◌, inl, inr, List, [], ◌∷◌, length, get_or, find, slice_get, Bool, true, false, is_some, Option, Some, None, refl, sym, ap, ◌∙◌, subst, arith}
+use Rattle.std.proofs.Common.{◌≡◌, ◌↔◌, ℕ, suc, ◌<◌, ◌≤◌, inl, inr, List, [], ◌∷◌, length, get_or, find, slice_get, Bool, true, false, is_some, Option, Some, None, refl, sym, ap, ◌∙◌, subst, arith}
 use Rattle.std.proofs.lemmas.List.{length-map}
+use Rattle.std.proofs.lemmas.Nat.{mod_below}
 use Rattle.std.proofs.lemmas.Option.{slice_get-get_or}
 use Rattle.av_perm.specs.Members.{In, IsListOf}
 use Rattle.av_perm.specs.Contain.{contains, first_occurrence}
@@ -14,10 +15,13 @@ use Rattle.av_sys.specs.TreeLists.{trees, members, members_at, count_of, count_a
 use Rattle.av_sys.specs.Exact.{Exact}
 use Rattle.av_count.proofs.NodeForms.{got_In}
 use Rattle.av_count.proofs.ClassMembers.{members_law, once_place}
+use Rattle.av_draw.specs.Drawn.{drawn, drawn_number}
 use Rattle.av_session.specs.Classes.{Class}
 use Rattle.av_session.specs.Answers.{place_among}
-use Rattle.av_session.specs.Runs.{HasBad, HasAnswers}
+use Rattle.av_session.specs.Drawing.{draw}
+use Rattle.av_session.specs.Runs.{HasBad, IsDrawnMember, HasAnswers}
 use Rattle.av_session.proofs.Places.{placed, no_place}
+use Rattle.av_session.proofs.Summaries.{is_summary}
 
 -- what is found passes the test, and where none is found each fails it
 found_passes : (p : List ℕ → Bool) (xs : List (List ℕ)) (x : List ℕ) → find p xs ≡ Some x → p x ≡ true
@@ -75,5 +79,17 @@ module _ (basis : List (List ℕ)) (class : Class) (form : IsWellFormed class.sy
         has_bad class.found.basis σ word (λ c. strange ((same σ).0 c)),
       )
 
+  drawn_one : (n seed d : ℕ) → 1 ≤ n → 1 ≤ count_of class.system n → IsDrawnMember basis class n (draw (members class.system n) seed d)
+  drawn_one n seed d h some =
+      let ws = members class.system n in
+      let r = drawn seed d (length ws) in
+      let below : r < length ws = mod_below (drawn_number seed d) (length ws) (omega (arith, as_many n)) in
+      let here : slice_get ws r ≡ Some (get_or ws r []) = slice_get-get_or ws r [] below in
+      record {
+        below = omega (arith, as_many n, below);
+        there = here;
+        member = ((listed_all n h).members (get_or ws r [])).0 (got_In ws r (get_or ws r []) here);
+      }
+
   pub has_answers : HasAnswers basis class
-  has_answers = record { listed = listed_all; counted = as_many; ranked = ranked_one; strange = strange_none }
+  has_answers = record { listed = listed_all; counted = as_many; ranked = ranked_one; strange = strange_none; drawn = drawn_one; summed = is_summary }

@@ -7,6 +7,8 @@ pub mod Abouts
 pub mod SolvedClasses
 pub mod Places
 pub mod ListedRows
+pub mod SeedDraws
+pub mod Summaries
 pub mod ClassAnswers
 pub mod Wholes
 pub mod Systems

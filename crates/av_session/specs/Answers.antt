@@ -1,5 +1,5 @@
 -- The answers of the queries about a settled class.
-use Rattle.std.specs.Prelude.{◌≡◌, ℕ, suc, ◌^◌, ◌≤◌, List, [], ◌∷◌, length, take, drop, flat_map, find, slice_get, nat_lt, if◌then◌else◌, Option, Some, None, codes, decimal}
+use Rattle.std.specs.Prelude.{◌≡◌, ℕ, suc, ◌^◌, ◌≤◌, ◌==◌, List, [], ◌∷◌, length, take, drop, flat_map, find, slice_get, nat_lt, if◌then◌else◌, Option, Some, None, codes, decimal}
 use Rattle.std.specs.List.{position}
 use Rattle.av_perm.specs.Lists.{same, counting}
 use Rattle.av_perm.specs.Contain.{contains, first_occurrence}
@@ -7,11 +7,13 @@ use Rattle.av_decomp.specs.Trees.{dec}
 use Rattle.av_sys.specs.declared.terms.System.{System}
 use Rattle.av_sys.specs.TreeLists.{members, count_of}
 use Rattle.av_count.specs.declared.count.Count.{Count}
+use Rattle.av_count.specs.declared.count.Count.TheVariants.{Known, Over}
 use Rattle.av_count.specs.Counts.{capped}
 use Rattle.av_text.specs.declared.queries.Query.{Query}
 use Rattle.av_text.specs.declared.queries.Query.TheVariants as query
 use Rattle.av_print.specs.Text.{◌⊹◌, word_text, places_text, ranked_text, count_text, query_text, tree_text}
 use Rattle.av_session.specs.Classes.{Class}
+use Rattle.av_session.specs.Drawing.{draws, drawn_values, summary_text}
 
 -- an answer of one line: the query, and what is answered
 abbrev pub one_line : Query → List ℕ → List ℕ
@@ -69,6 +71,15 @@ place_text class w None = bad_text w (find (contains w) class.found.basis)
 abbrev pub place_among : System → List ℕ → Option ℕ
 place_among S w = position (same w) (members S (length w))
 
+-- the lines of the members of length n that are drawn, k of them
+unfoldable pub draws_text : System → ℕ → ℕ → ℕ → List ℕ
+draws_text S n seed k = flat_map row_text (draws (members S n) seed k)
+
+-- an answer about drawn members, where so many can be drawn
+abbrev pub drawn_answer : Query → Count → List ℕ → List ℕ
+drawn_answer q Over text = one_line q (codes "over")
+drawn_answer q (Known c) text = if c == 0 then one_line q (codes "none of 0") else text
+
 -- the answer of a query
 unfoldable pub answer_text : Class → Query → List ℕ
 answer_text class (query.Count n) = one_line (query.Count n) (count_text (member_count class.system n))
@@ -77,6 +88,12 @@ answer_text class (query.List n r k) = query_text (query.List n r k) ⊹ codes "
 answer_text class (query.Unrank n r) = one_line (query.Unrank n r) (unranked_text (member_count class.system n) (slice_get (members class.system n) r))
 answer_text class (query.Rank w) = one_line (query.Rank w) (place_text class w (place_among class.system w))
 answer_text class (query.Tree w) = one_line (query.Tree w) (tree_text (dec w))
+answer_text class (query.Draw n s k) =
+    drawn_answer (query.Draw n s k) (member_count class.system n)
+    (query_text (query.Draw n s k) ⊹ codes " =\n" ⊹ draws_text class.system n s k ⊹ codes "end\n")
+answer_text class (query.DrawStat t n s k) =
+    drawn_answer (query.DrawStat t n s k) (member_count class.system n)
+    (one_line (query.DrawStat t n s k) (summary_text (drawn_values t (draws (members class.system n) s k))))
 
 -- the greatest length at which a query asks of the members; none for the tree of a word
 abbrev pub length_needed : Query → ℕ
@@ -86,3 +103,5 @@ length_needed (query.List n r k) = n
 length_needed (query.Unrank n r) = n
 length_needed (query.Rank w) = length w
 length_needed (query.Tree w) = 0
+length_needed (query.Draw n s k) = n
+length_needed (query.DrawStat t n s k) = n

@@ -1,6 +1,7 @@
 pub mod Taken
 pub mod Options
 pub mod Stops
+pub mod Drawing
 pub mod Answers
 pub mod Serving
 pub mod Shown

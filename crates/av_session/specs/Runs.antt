@@ -1,7 +1,7 @@
 -- What a run is about: the text due of the words and the bytes, what it says of the class, and what its system generates.
-use Rattle.std.specs.Prelude.{◌≡◌, ℕ, suc, ◌≤◌, ◌↔◌, ◌⊎◌, List, [], length, flat_map, find, slice_get, Option, Some, None, Ok}
+use Rattle.std.specs.Prelude.{◌≡◌, ℕ, suc, ◌<◌, ◌≤◌, ◌↔◌, ◌⊎◌, List, [], length, flat_map, find, slice_get, Option, Some, None, Ok}
 use Rattle.std.specs.Io.KnownBytes.{IsAtEnd}
-use Rattle.av_perm.specs.Members.{IsListOf}
+use Rattle.av_perm.specs.Members.{In, IsListOf}
 use Rattle.av_perm.specs.Class.{minimal}
 use Rattle.av_perm.specs.Contain.{contains, first_occurrence}
 use Rattle.av_perm.specs.Gap.{simples, simples_below, IsSettled, IsUnsettled}
@@ -24,6 +24,7 @@ use Rattle.av_session.specs.declared.status.Status.TheVariants as status
 use Rattle.av_session.specs.Options.{options}
 use Rattle.av_print.specs.Text.{◌⊹◌}
 use Rattle.av_print.specs.Systems.{system_text}
+use Rattle.av_session.specs.Drawing.{draw, least_of, greatest_of}
 use Rattle.av_session.specs.Answers.{answer_text, place_among}
 use Rattle.av_session.specs.Due.{text_due, settled_header}
 use Rattle.av_session.specs.Solved.{solved, status_of}
@@ -94,6 +95,19 @@ pub record HasCases (o : Options) (basis : List (List ℕ)) : Type 0 where
   -- it is unsettled exactly where it has no gap within the limit of lengths
   pub unsettled : (status_of (solved o (minimal basis)) ≡ status.Unsettled) ↔ ((g : ℕ) → IsGap basis g → suc g ≤ o.max_simple → ⊥)
 
+-- a draw from the members of length n: a rank below their number, and the member there, which avoids the basis
+pub record IsDrawnMember (basis : List (List ℕ)) (class : Class) (n : ℕ) (row : ℕ × List ℕ) : Type 0 where
+  pub below : row.0 < count_of class.system n
+  pub there : slice_get (members class.system n) row.0 ≡ Some row.1
+  pub member : InClassAt basis n row.1
+
+-- the least and the greatest of some numbers are of them, and none is less or greater
+pub record IsSummary (xs : List ℕ) : Type 0 where
+  pub least : In (least_of xs) xs
+  pub none_less : (x : ℕ) → In x xs → least_of xs ≤ x
+  pub greatest : In (greatest_of xs) xs
+  pub none_greater : (x : ℕ) → In x xs → x ≤ greatest_of xs
+
 -- what the answers about a class's members say, in the words of the textbook
 pub record HasAnswers (basis : List (List ℕ)) (class : Class) : Type 0 where
   -- the list of the members of a length, which lists and draws from, holds each permutation of that length that avoids the basis,
@@ -105,6 +119,10 @@ pub record HasAnswers (basis : List (List ℕ)) (class : Class) : Type 0 where
   pub ranked : (σ : List ℕ) → InClass basis σ → (r : ℕ) × (place_among class.system σ ≡ Some r) × (slice_get (members class.system (length σ)) r ≡ Some σ)
   -- any other has none, and contains a minimal word of the basis, at the places given
   pub strange : (σ : List ℕ) → IsWord σ → (InClass basis σ → ⊥) → (place_among class.system σ ≡ None) × HasBad class.found.basis σ
+  -- each draw from the members of a length, where there are some, is the one at the drawn rank
+  pub drawn : (n seed d : ℕ) → 1 ≤ n → 1 ≤ count_of class.system n → IsDrawnMember basis class n (draw (members class.system n) seed d)
+  -- the least and the greatest value of a statistic over draws are what they are called
+  pub summed : (xs : List ℕ) → 1 ≤ length xs → IsSummary xs
 
 -- the system of these options and this script, whose class is settled: its text stands in the text due of the words and the
 -- bytes, and it generates the class

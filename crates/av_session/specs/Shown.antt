@@ -1,6 +1,7 @@
--- The texts of answers about one member.
+-- The texts of answers that are computed before they are written.
 use Rattle.std.specs.Prelude.{ℕ, List, codes, decimal}
 use Rattle.av_print.specs.Text.{◌⊹◌, word_text, places_text, count_text}
+use Rattle.av_session.specs.declared.draws.Summary.{Summary}
 use Rattle.av_session.specs.declared.ranks.Unranked.{Unranked}
 use Rattle.av_session.specs.declared.ranks.Unranked.TheVariants.{Member, NoneOf}
 use Rattle.av_session.specs.declared.ranks.Place.{Place}
@@ -14,3 +15,6 @@ abbrev pub place_shown : Place → List ℕ
 place_shown (At r) = decimal r
 place_shown Big = codes "big"
 place_shown (Bad pattern places) = codes "no " ⊹ word_text pattern.now ⊹ codes " at " ⊹ places_text places
+
+abbrev pub summary_shown : Summary → List ℕ
+summary_shown s = codes "least " ⊹ decimal s.least ⊹ codes " most " ⊹ decimal s.most ⊹ codes " total " ⊹ decimal s.total

@@ -5,17 +5,21 @@ ghost use Rattle.av_io.specs.Causes.{Rose};
 ghost use Rattle.av_print.specs.Wrote.{AppendsPart};
 ghost use Rattle.av_print.specs.Text.{◌⊹◌, query_text};
 ghost use Rattle.av_text.specs.Queries.{IsInRange};
-ghost use Rattle.av_session.specs.Answers.{one_line, counts_text, rows_text, answer_text, length_needed};
+ghost use Rattle.av_sys.specs.TreeLists.{members};
+ghost use Rattle.av_text.specs.declared.limits.TheConstants.{MAX_DRAWN};
+ghost use Rattle.av_session.specs.Drawing.{draws, drawn_values, summary_text};
+ghost use Rattle.av_session.specs.Answers.{one_line, counts_text, rows_text, member_count, draws_text, drawn_answer, answer_text, length_needed};
 ghost use Rattle.av_session.specs.Serving.{Serves, IsTableFor, greatest_needed};
 
+use crate::draws::{DrawnRows, Urn};
 use crate::members::{CountsTo, Rows, member_count};
 use crate::ranks::{place_of, word_at};
 use crate::solving::SettledClass;
 use crate::stop::Stop;
-use av_count::Table;
+use av_count::{Count, Table};
 use av_decomp::tree;
 use av_io::{Sink, SureSink};
-use av_perm::{MAX_LENGTH, Memory};
+use av_perm::{MAX_LENGTH, Memory, StatKind};
 use av_print::{Bytes, Text};
 use av_text::{Queries, Query};
 use std::alloc::Global;
@@ -31,6 +35,7 @@ fn length_needed(query: &Query) -> usize
         Query::List { n, .. } | Query::Unrank { n, .. } => usize::from(*n),
         Query::Rank { word } => word.len(),
         Query::Tree { .. } => 0,
+        Query::Draw { n, .. } | Query::DrawStat { n, .. } => usize::from(*n),
     }
 }
 
@@ -136,6 +141,92 @@ fn put_list<K: Sink>(
     Ok(())
 }
 
+/// Writes the lines of the members that are drawn, after the query and before `end`.
+fn put_drawn_rows<K: Sink>(sink: &mut K, query: &Query, rows: &DrawnRows<'_>) -> Result<(), Stop>
+    ensures whole { OnOk result (Appends (K.held sink.old) (K.held sink.new) (query_text query.now ⊹ codes " =\n" ⊹ draws_text rows.now.urn.system.now rows.now.urn.n rows.now.seed rows.now.many ⊹ codes "end\n")) }
+    ensures part { AppendsPart (K.held sink.old) (K.held sink.new) (query_text query.now ⊹ codes " =\n" ⊹ draws_text rows.now.urn.system.now rows.now.urn.n rows.now.seed rows.now.many ⊹ codes "end\n") }
+    ensures later { K.faults sink.old ≤ K.faults sink.new }
+    ensures failed { IsErrOf result Stop.WriteFault → Rose (K.faults sink.old) (K.faults sink.new) }
+{
+    (query, Bytes(b" =\n"), rows, Bytes(b"end\n")).put_on(sink)?;
+    Ok(())
+}
+
+/// Writes the answer of `draw`: the query, the lines of the members that are drawn, and `end`, where the number of members is
+/// known and isn't 0.
+fn put_draws<K: Sink>(
+    sink: &mut K,
+    class: &SettledClass,
+    table: &Table,
+    query: &Query,
+    n: usize,
+    seed: u64,
+    many: u32,
+) -> Result<(), Stop>
+    requires stands { table.now.system ≡ class.now.system }
+    requires least { 1 ≤ n }
+    requires most { n ≤ table.now.largest }
+    ensures whole { OnOk result (Appends (K.held sink.old) (K.held sink.new) (drawn_answer query.now (member_count class.now.system n) (query_text query.now ⊹ codes " =\n" ⊹ draws_text class.now.system n seed many ⊹ codes "end\n"))) }
+    ensures part { AppendsPart (K.held sink.old) (K.held sink.new) (drawn_answer query.now (member_count class.now.system n) (query_text query.now ⊹ codes " =\n" ⊹ draws_text class.now.system n seed many ⊹ codes "end\n")) }
+    ensures later { K.faults sink.old ≤ K.faults sink.new }
+    ensures failed { IsErrOf result Stop.WriteFault → Rose (K.faults sink.old) (K.faults sink.new) }
+{
+    match member_count(table, n) {
+        Count::Over => put_line(sink, query, &Bytes(b"over")),
+        Count::Known(count) => {
+            if count == 0 {
+                return put_line(sink, query, &Bytes(b"none of 0"));
+            }
+            let urn = Urn {
+                system: class.system(),
+                table,
+                n,
+                count,
+            };
+            put_drawn_rows(sink, query, &DrawnRows { urn, seed, many })
+        }
+    }
+}
+
+/// Writes the answer of `drawstat`: what a statistic is over the members that are drawn, where their number is known and
+/// isn't 0.
+fn put_drawn_statistic<K: Sink>(
+    sink: &mut K,
+    class: &SettledClass,
+    table: &Table,
+    query: &Query,
+    kind: StatKind,
+    n: usize,
+    seed: u64,
+    many: u32,
+) -> Result<(), Stop>
+    requires stands { table.now.system ≡ class.now.system }
+    requires least { 1 ≤ n }
+    requires most { n ≤ table.now.largest }
+    requires some { 1 ≤ many }
+    requires few { many ≤ MAX_DRAWN }
+    ensures whole { OnOk result (Appends (K.held sink.old) (K.held sink.new) (drawn_answer query.now (member_count class.now.system n) (one_line query.now (summary_text (drawn_values kind (draws (members class.now.system n) seed many)))))) }
+    ensures part { AppendsPart (K.held sink.old) (K.held sink.new) (drawn_answer query.now (member_count class.now.system n) (one_line query.now (summary_text (drawn_values kind (draws (members class.now.system n) seed many))))) }
+    ensures later { K.faults sink.old ≤ K.faults sink.new }
+    ensures failed { IsErrOf result Stop.WriteFault → Rose (K.faults sink.old) (K.faults sink.new) }
+{
+    match member_count(table, n) {
+        Count::Over => put_line(sink, query, &Bytes(b"over")),
+        Count::Known(count) => {
+            if count == 0 {
+                return put_line(sink, query, &Bytes(b"none of 0"));
+            }
+            let urn = Urn {
+                system: class.system(),
+                table,
+                n,
+                count,
+            };
+            put_line(sink, query, &urn.summary(kind, seed, many))
+        }
+    }
+}
+
 /// Writes the answer of a query about a settled class, with a table that serves it.
 #[tactic(auto, unfolding(crate::specs::Answers::answer_text))]
 fn put_answer<K: Sink>(
@@ -182,6 +273,21 @@ fn put_answer<K: Sink>(
             put_line(sink, query, &place_of(class, table, word))
         }
         Query::Tree { word } => put_line(sink, query, &tree(alloc, word)?),
+        Query::Draw { n, seed, many } => {
+            let n = usize::from(*n);
+            let table = needed(class, table, n);
+            put_draws(sink, class, table, query, n, *seed, *many)
+        }
+        Query::DrawStat {
+            kind,
+            n,
+            seed,
+            many,
+        } => {
+            let n = usize::from(*n);
+            let table = needed(class, table, n);
+            put_drawn_statistic(sink, class, table, query, *kind, n, *seed, *many)
+        }
     }
 }
 

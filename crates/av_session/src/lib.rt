@@ -5,6 +5,7 @@
 #![tactic(auto)]
 
 mod answers;
+mod draws;
 mod header;
 mod members;
 mod options;

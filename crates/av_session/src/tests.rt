@@ -99,7 +99,8 @@ fn copy_front(bytes: &[u8], buf: &mut [u8]) -> usize
 
 static ANSWERED: [(&str, Status, &str); 11] = [
     (
-        "basis 132\nlist 3\nlist 3 from 3 for 9\nlist 3 from 5\nrank 231\nrank 132\nunrank 3 4\nunrank 3 5\n",
+        "basis 132\nlist 3\nlist 3 from 3 for 9\nlist 3 from 5\nrank 231\nrank 132\nunrank 3 4\nunrank 3 5\ndraw 3 0 2\n\
+         drawstat inv 3 0 2\ndrawstat des 3 0 2\ndrawstat lrm 3 0 2\n",
         Status::Done,
         "permspec 1
 basis 132
@@ -129,10 +130,17 @@ rank 231 = 4
 rank 132 = no 132 at 1 2 3
 unrank 3 4 = 231
 unrank 3 5 = none of 5
+draw 3 0 2 =
+3 321
+2 312
+end
+drawstat inv 3 0 2 = least 2 most 3 total 5
+drawstat des 3 0 2 = least 1 most 2 total 3
+drawstat lrm 3 0 2 = least 1 most 1 total 2
 ",
     ),
     (
-        "basis 123 132\ncounts 4\ncount 128\ncount 129\n",
+        "basis 123 132\ncounts 4\ncount 128\ncount 129\ndraw 129 0 1\ndrawstat inv 129 0 1\n",
         Status::Done,
         "permspec 1
 basis 123 132
@@ -149,6 +157,8 @@ end
 counts 4 = 1 2 4 8
 count 128 = 170141183460469231731687303715884105728
 count 129 = over
+draw 129 0 1 = over
+drawstat inv 129 0 1 = over
 ",
     ),
     (
@@ -204,7 +214,7 @@ count 1 = 1
 ",
     ),
     (
-        "basis 1\ncount 1\n",
+        "basis 1\ncount 1\ndraw 1 0 1\ndrawstat inv 1 0 1\n",
         Status::Done,
         "permspec 1
 basis 1
@@ -214,6 +224,8 @@ system 1 equations 1 terms 0
 E0 C avoid 1 require none = none
 end
 count 1 = 0
+draw 1 0 1 = none of 0
+drawstat inv 1 0 1 = none of 0
 ",
     ),
     (
