@@ -1,3 +1,5 @@
+pub mod DemoTexts
+pub mod DemoWords
 pub mod Digits
 pub mod Cuts
 pub mod Shorts

@@ -8,3 +8,4 @@ pub mod Queries
 pub mod Read
 pub mod Ranges
 pub mod Answers
+pub mod Demo

@@ -31,7 +31,9 @@
 //! The definitions stand in `specs/`: `Read` puts together what `Lines`, `Words`, `Numerals` and `Queries` say.
 #![tactic(auto)]
 
+mod demo;
 mod kind;
+pub mod laws;
 mod limits;
 mod lines;
 mod numerals;
@@ -42,8 +44,11 @@ mod statistics;
 mod tokens;
 mod words;
 
+pub use demo::demo_script;
 pub use kind::Kind;
-pub use limits::{DEFAULT_LISTED, MAX_BASIS_WORDS, MAX_DRAWN, MAX_LISTED, MAX_SCRIPT_BYTES};
+pub use limits::{
+    DEFAULT_LISTED, MAX_BASIS_WORDS, MAX_DEMO, MAX_DRAWN, MAX_LISTED, MAX_SCRIPT_BYTES,
+};
 pub use numerals::number_in;
 pub use queries::{Form, Query};
 pub use script::{Queries, Script, ScriptError, read_script};

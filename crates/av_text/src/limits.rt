@@ -14,3 +14,6 @@ pub const DEFAULT_LISTED: u32 = 1_000;
 
 /// The most words that a query draws.
 pub const MAX_DRAWN: u32 = 100_000;
+
+/// The greatest number of a demo script.
+pub const MAX_DEMO: u32 = 99_999;

@@ -1,4 +1,5 @@
 use super::*;
+use av_perm::Memory;
 
 /// Texts that are refused, each with the line and the kind of its fault.
 static REFUSED: [(&str, u32, Kind); 88] = [
@@ -205,4 +206,32 @@ fn a_text_is_as_long_as_it_may_be(rt: HostRuntime) {
         Err(ScriptError::Refused { line: 0, kind }) => assert_eq!(rt; kind.number(), 8),
         _ => assert!(rt; false, "not refused as too long"),
     }
+}
+
+// The words of length 4 at the places 0, 10, 15 and 23, in lexicographic order.
+#[test]
+fn demo_scripts(rt: HostRuntime) -> Result<(), Memory> {
+    let wanted: [(u32, &[u8]); 4] = [
+        (
+            0,
+            b"basis 24153 25314 31524 35142 41352 42513 246135 362514 415263 531642 1234\ncounts 160\ndrawstat inv 40 0 1000\n",
+        ),
+        (
+            10,
+            b"basis 24153 25314 31524 35142 41352 42513 246135 362514 415263 531642 2413\ncounts 160\ndrawstat inv 40 10 1000\n",
+        ),
+        (
+            47,
+            b"basis 24153 25314 31524 35142 41352 42513 246135 362514 415263 531642 4321\ncounts 160\ndrawstat inv 40 47 1000\n",
+        ),
+        (
+            99999,
+            b"basis 24153 25314 31524 35142 41352 42513 246135 362514 415263 531642 3241\ncounts 160\ndrawstat inv 40 99999 1000\n",
+        ),
+    ];
+    for (g, bytes) in wanted {
+        let script = demo_script(rt.alloc(), g)?;
+        assert!(rt; script.as_slice() == bytes, "{g}");
+    }
+    Ok(())
 }

@@ -1,0 +1,8 @@
+// The law of the demo scripts.
+ghost use Rattle.av_text.specs.Demo.{DemoLaw};
+
+/// The demo script of each number up to 99,999 has three lines: a basis line of eleven words, `counts 160`, and a `drawstat`
+/// line with that number. Where the last line asks a query, it is a script with that basis, these counts and that query.
+pub fn demo_law()
+    ensures { DemoLaw }
+{}
