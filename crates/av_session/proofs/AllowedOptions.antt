@@ -6,11 +6,12 @@ use Rattle.std.specs.Str.Parse.{digits_value}
 use Rattle.std.proofs.lemmas.Bool.{and_parts, leb-true}
 use Rattle.av_perm.specs.Lists.{same}
 use Rattle.av_text.specs.declared.kind.Kind.TheVariants.{BadNumber, Range}
+use Rattle.av_text.specs.declared.limits.TheConstants.{MAX_DEMO}
 use Rattle.av_text.specs.Numerals.{is_numeral, number_in}
 use Rattle.av_session.specs.declared.options.TheConstants.{LEAST_MAX_SIMPLE, GREATEST_MAX_SIMPLE, DEFAULT_MAX_SIMPLE, GREATEST_MAX_SIZE, DEFAULT_MAX_SIZE}
 use Rattle.av_session.specs.declared.options.Chosen.{Chosen}
 use Rattle.av_session.specs.declared.options.Options.{Options}
-use Rattle.av_session.specs.Options.{cut, set_once, choose_max_simple, choose_max_size, choose, choose_all, nothing_chosen, with_defaults, options, AreInRanges, IsAllowed}
+use Rattle.av_session.specs.Options.{cut, set_once, choose_max_simple, choose_max_size, choose_demo, choose, choose_all, nothing_chosen, with_defaults, options, AreInRanges, IsAllowed}
 use Rattle.av_session.proofs.FirstOptions.{one_word_first, two_words_first, name_alone_first}
 
 -- a numeral in a range is in the range
@@ -36,24 +37,32 @@ simple_within chosen value h = by (set_once LEAST_MAX_SIMPLE GREATEST_MAX_SIMPLE
   where
     by : (o : Option ℕ) → IfSome o (λ n. (LEAST_MAX_SIMPLE ≤ n) × (n ≤ GREATEST_MAX_SIMPLE)) → IfSome (option_map (λ k. record chosen { max_simple = Some k }) o) AreInRanges
     by None i = tt
-    by (Some k) i = record { simple_low = i.0; simple_high = i.1; size_low = h.size_low; size_high = h.size_high }
+    by (Some k) i = record { simple_low = i.0; simple_high = i.1; size_low = h.size_low; size_high = h.size_high; demo_high = h.demo_high }
 
 size_within : (chosen : Chosen) (value : List ℕ) → AreInRanges chosen → IfSome (choose_max_size chosen value) AreInRanges
 size_within chosen value h = by (set_once 1 GREATEST_MAX_SIZE chosen.max_size value) (set_within 1 GREATEST_MAX_SIZE chosen.max_size value)
   where
     by : (o : Option ℕ) → IfSome o (λ n. (1 ≤ n) × (n ≤ GREATEST_MAX_SIZE)) → IfSome (option_map (λ l. record chosen { max_size = Some l }) o) AreInRanges
     by None i = tt
-    by (Some l) i = record { simple_low = h.simple_low; simple_high = h.simple_high; size_low = i.0; size_high = i.1 }
+    by (Some l) i = record { simple_low = h.simple_low; simple_high = h.simple_high; size_low = i.0; size_high = i.1; demo_high = h.demo_high }
+
+demo_within : (chosen : Chosen) (value : List ℕ) → AreInRanges chosen → IfSome (choose_demo chosen value) AreInRanges
+demo_within chosen value h = by (set_once 0 MAX_DEMO chosen.demo value) (set_within 0 MAX_DEMO chosen.demo value)
+  where
+    by : (o : Option ℕ) → IfSome o (λ n. (0 ≤ n) × (n ≤ MAX_DEMO)) → IfSome (option_map (λ g. record chosen { demo = Some g }) o) AreInRanges
+    by None i = tt
+    by (Some g) i = record { simple_low = h.simple_low; simple_high = h.simple_high; size_low = h.size_low; size_high = h.size_high; demo_high = i.1 }
 
 -- an option of any name does
 choose_within : (chosen : Chosen) (name value : List ℕ) → AreInRanges chosen → IfSome (choose chosen name value) AreInRanges
 unfolding choose
-choose_within chosen name value h = by (same name (codes "--max-simple")) (same name (codes "--max-size"))
+choose_within chosen name value h = by (same name (codes "--max-simple")) (same name (codes "--max-size")) (same name (codes "--demo"))
   where
-    by : (b c : Bool) → IfSome (if b then choose_max_simple chosen value else (if c then choose_max_size chosen value else None)) AreInRanges
-    by true c = simple_within chosen value h
-    by false true = size_within chosen value h
-    by false false = tt
+    by : (b c d : Bool) → IfSome (if b then choose_max_simple chosen value else (if c then choose_max_size chosen value else (if d then choose_demo chosen value else None))) AreInRanges
+    by true c d = simple_within chosen value h
+    by false true d = size_within chosen value h
+    by false false true = demo_within chosen value h
+    by false false false = tt
 
 -- one step after another does
 then_within : (f : Chosen → Option Chosen) (o : Option Chosen) → IfSome o AreInRanges → ((c : Chosen) → AreInRanges c → IfSome (f c) AreInRanges) → IfSome (option_and_then f o) AreInRanges
@@ -88,7 +97,7 @@ default_high high d (Some k) h i = i
 -- so the options do
 pub options_allowed : (words : List (List ℕ)) (o : Options) → options words ≡ Some o → IsAllowed o
 unfolding options
-options_allowed words o e = by (choose_all words nothing_chosen) (all_within words nothing_chosen (record { simple_low = tt; simple_high = tt; size_low = tt; size_high = tt })) e
+options_allowed words o e = by (choose_all words nothing_chosen) (all_within words nothing_chosen (record { simple_low = tt; simple_high = tt; size_low = tt; size_high = tt; demo_high = tt })) e
   where
     by : (c : Option Chosen) → IfSome c AreInRanges → option_map with_defaults c ≡ Some o → IsAllowed o
     by None h e = absurd (let f : None ≡ Some o = e in cc)
@@ -99,4 +108,5 @@ options_allowed words o e = by (choose_all words nothing_chosen) (all_within wor
           high = default_high GREATEST_MAX_SIMPLE DEFAULT_MAX_SIMPLE c.max_simple (omega arith) h.simple_high;
           some = default_low 1 DEFAULT_MAX_SIZE c.max_size (omega arith) h.size_low;
           few = default_high GREATEST_MAX_SIZE DEFAULT_MAX_SIZE c.max_size (omega arith) h.size_high;
+          demo = h.demo_high;
         })

@@ -1,6 +1,11 @@
 pub mod Takes
 pub mod Levels
 pub mod FirstOptions
+pub mod OptionWords
+pub mod OptionRows
+pub mod OptionTexts
+pub mod OptionSteps
+pub mod OptionLaw
 pub mod AllowedOptions
 pub mod Ends
 pub mod Abouts

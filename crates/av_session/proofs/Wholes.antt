@@ -16,7 +16,7 @@ use Rattle.av_session.specs.Solved.{solved, status_of}
 use Rattle.av_session.specs.Due.{text_due, text_of}
 use Rattle.av_session.specs.Status.{HoldsText, FitsText, FitsRead, FitsScript}
 use Rattle.av_session.specs.Options.{options}
-use Rattle.av_session.specs.Runs.{due, Fits, Fits_of, ReadsWhole, IsComplete}
+use Rattle.av_session.specs.Runs.{demo_asked, script_bytes, due, Fits, Fits_of, ReadsWhole, IsComplete}
 
 too_long : (bytes : List ℕ) → MAX_SCRIPT_BYTES < length bytes → read bytes ≡ Err (record { line = 0; kind = TooLong })
 unfolding read
@@ -83,18 +83,27 @@ pub read_fault_fits : (o : Options) (old : Option (List ℕ)) → IfSome old (λ
 read_fault_fits o None = tt
 read_fault_fits o (Some bytes) = (free_read o (read bytes)).1
 
--- the same with the words of the command line, which set these options
-pub due_text : (words : List (List ℕ)) (o : Options) (s : Status) (old held held' : Option (List ℕ)) → Some o ≡ options words
-    → IfSome old (λ bytes. HoldsText s held held' (text_due o bytes)) → IfSome old (λ bytes. HoldsText s held held' (due words bytes))
-unfolding due
-due_text words o s None held held' e h = tt
-due_text words o s (Some bytes) held held' e h = rw (← e) h
+-- the words of the command line ask for the demo script of the options that they set
+asked : (words : List (List ℕ)) (o : Options) → Some o ≡ options words → o.demo ≡ demo_asked words
+unfolding demo_asked
+asked words o e = rw (← e) refl
 
-pub due_fits : (words : List (List ℕ)) (o : Options) (s : Status) (old : Option (List ℕ)) → Some o ≡ options words
-    → IfSome old (λ bytes. FitsText s o bytes) → IfSome old (λ bytes. Fits s words bytes)
+pub asked_none : (words : List (List ℕ)) (o : Options) → Some o ≡ options words → demo_asked words ≡ None → o.demo ≡ None
+asked_none words o e f = asked words o e ∙ f
+
+pub asked_some : (words : List (List ℕ)) (o : Options) (A : Type 0) → Some o ≡ options words → IfSome o.demo (λ _. A) → IfSome (demo_asked words) (λ _. A)
+asked_some words o A e h = subst (λ d. IfSome d (λ _. A)) (asked words o e) h
+
+-- the same with the words of the command line, which set these options
+pub due_text : (words : List (List ℕ)) (o : Options) (s : Status) (left held held' : Option (List ℕ)) → Some o ≡ options words
+    → IfSome (script_bytes o.demo left) (λ bytes. HoldsText s held held' (text_due o bytes)) → IfSome (script_bytes (demo_asked words) left) (λ bytes. HoldsText s held held' (due words bytes))
+unfolding due
+due_text words o s left held held' e h = rw (← asked words o e, ← e) h
+
+pub due_fits : (words : List (List ℕ)) (o : Options) (s : Status) (left : Option (List ℕ)) → Some o ≡ options words
+    → IfSome (script_bytes o.demo left) (λ bytes. FitsText s o bytes) → IfSome (script_bytes (demo_asked words) left) (λ bytes. Fits s words bytes)
 unfolding Fits
-due_fits words o s None e h = tt
-due_fits words o s (Some bytes) e h = rw (← e) h
+due_fits words o s left e h = rw (← asked words o e, ← e) h
 
 -- words that aren't accepted ask for nothing of the text
 pub no_options_fits : (words : List (List ℕ)) (s : Status) (old : Option (List ℕ)) → None ≡ options words → IfSome old (λ bytes. Fits s words bytes)

@@ -26,35 +26,35 @@ no_words : options [] ≡ Some default_options
 unfolding options choose_all choose cut set_once is_digits is_numeral number_in
 no_words = refl
 
-simple_in_one : options (codes "--max-simple=6" ∷ []) ≡ Some (record { max_simple = 6; max_size = 20000 })
+simple_in_one : options (codes "--max-simple=6" ∷ []) ≡ Some (record { max_simple = 6; max_size = 20000; demo = None })
 unfolding options choose_all choose cut set_once is_digits is_numeral number_in
 simple_in_one = refl
 
-simple_in_two : options (codes "--max-simple" ∷ codes "10" ∷ []) ≡ Some (record { max_simple = 10; max_size = 20000 })
+simple_in_two : options (codes "--max-simple" ∷ codes "10" ∷ []) ≡ Some (record { max_simple = 10; max_size = 20000; demo = None })
 unfolding options choose_all choose cut set_once is_digits is_numeral number_in
 simple_in_two = refl
 
-size_in_one : options (codes "--max-size=14" ∷ []) ≡ Some (record { max_simple = 8; max_size = 14 })
+size_in_one : options (codes "--max-size=14" ∷ []) ≡ Some (record { max_simple = 8; max_size = 14; demo = None })
 unfolding options choose_all choose cut set_once is_digits is_numeral number_in
 size_in_one = refl
 
-size_in_two : options (codes "--max-size" ∷ codes "65536" ∷ []) ≡ Some (record { max_simple = 8; max_size = 65536 })
+size_in_two : options (codes "--max-size" ∷ codes "65536" ∷ []) ≡ Some (record { max_simple = 8; max_size = 65536; demo = None })
 unfolding options choose_all choose cut set_once is_digits is_numeral number_in
 size_in_two = refl
 
-in_one_and_one : options (codes "--max-simple=5" ∷ codes "--max-size=1" ∷ []) ≡ Some (record { max_simple = 5; max_size = 1 })
+in_one_and_one : options (codes "--max-simple=5" ∷ codes "--max-size=1" ∷ []) ≡ Some (record { max_simple = 5; max_size = 1; demo = None })
 unfolding options choose_all choose cut set_once is_digits is_numeral number_in
 in_one_and_one = refl
 
-in_two_and_one : options (codes "--max-simple" ∷ codes "5" ∷ codes "--max-size=1" ∷ []) ≡ Some (record { max_simple = 5; max_size = 1 })
+in_two_and_one : options (codes "--max-simple" ∷ codes "5" ∷ codes "--max-size=1" ∷ []) ≡ Some (record { max_simple = 5; max_size = 1; demo = None })
 unfolding options choose_all choose cut set_once is_digits is_numeral number_in
 in_two_and_one = refl
 
-in_one_and_two : options (codes "--max-size=1" ∷ codes "--max-simple" ∷ codes "5" ∷ []) ≡ Some (record { max_simple = 5; max_size = 1 })
+in_one_and_two : options (codes "--max-size=1" ∷ codes "--max-simple" ∷ codes "5" ∷ []) ≡ Some (record { max_simple = 5; max_size = 1; demo = None })
 unfolding options choose_all choose cut set_once is_digits is_numeral number_in
 in_one_and_two = refl
 
-in_two_and_two : options (codes "--max-size" ∷ codes "1" ∷ codes "--max-simple" ∷ codes "5" ∷ []) ≡ Some (record { max_simple = 5; max_size = 1 })
+in_two_and_two : options (codes "--max-size" ∷ codes "1" ∷ codes "--max-simple" ∷ codes "5" ∷ []) ≡ Some (record { max_simple = 5; max_size = 1; demo = None })
 unfolding options choose_all choose cut set_once is_digits is_numeral number_in
 in_two_and_two = refl
 
@@ -93,3 +93,16 @@ empty_value = refl
 another_word : options (codes "x" ∷ []) ≡ None
 unfolding options choose_all choose cut set_once is_digits is_numeral number_in
 another_word = refl
+
+-- the number of a demo script
+demo_in_one : options (codes "--demo=0" ∷ codes "--max-simple=6" ∷ []) ≡ Some (record { max_simple = 6; max_size = 20000; demo = Some 0 })
+unfolding options choose_all choose cut set_once is_digits is_numeral number_in
+demo_in_one = refl
+
+demo_in_two : options (codes "--demo" ∷ codes "99999" ∷ []) ≡ Some (record { max_simple = 8; max_size = 20000; demo = Some 99999 })
+unfolding options choose_all choose cut set_once is_digits is_numeral number_in
+demo_in_two = refl
+
+demo_too_high : options (codes "--demo" ∷ codes "100000" ∷ []) ≡ None
+unfolding options choose_all choose cut set_once is_digits is_numeral number_in
+demo_too_high = refl

@@ -1,4 +1,5 @@
 pub mod Taken
+pub mod Command
 pub mod Options
 pub mod Stops
 pub mod Drawing

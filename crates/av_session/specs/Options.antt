@@ -4,6 +4,7 @@ use Rattle.std.specs.List.{position}
 use Rattle.std.specs.Option.{option_map, option_and_then}
 use Rattle.std.specs.Result.{result_ok}
 use Rattle.av_perm.specs.Lists.{same}
+use Rattle.av_text.specs.declared.limits.TheConstants.{MAX_DEMO}
 use Rattle.av_text.specs.Numerals.{number_in}
 use Rattle.av_session.specs.declared.options.TheConstants.{LEAST_MAX_SIMPLE, GREATEST_MAX_SIMPLE, DEFAULT_MAX_SIMPLE, GREATEST_MAX_SIZE, DEFAULT_MAX_SIZE}
 use Rattle.av_session.specs.declared.options.Chosen.{Chosen}
@@ -34,11 +35,17 @@ abbrev pub choose_max_size : Chosen → List ℕ → Option Chosen
 choose_max_size chosen value =
     option_map (λ l. record chosen { max_size = Some l }) (set_once 1 GREATEST_MAX_SIZE chosen.max_size value)
 
+-- `--demo`, up to the greatest number of a demo script
+abbrev pub choose_demo : Chosen → List ℕ → Option Chosen
+choose_demo chosen value =
+    option_map (λ g. record chosen { demo = Some g }) (set_once 0 MAX_DEMO chosen.demo value)
+
 -- what is chosen after the option of this name and value; there is no option of another name
 unfoldable pub choose : Chosen → List ℕ → List ℕ → Option Chosen
 choose chosen name value =
     if same name (codes "--max-simple") then choose_max_simple chosen value
-    else (if same name (codes "--max-size") then choose_max_size chosen value else None)
+    else (if same name (codes "--max-size") then choose_max_size chosen value
+    else (if same name (codes "--demo") then choose_demo chosen value else None))
 
 -- what is chosen after all these words: an option is a word with `=`, or else a word that is its name and a second one
 -- that is its value
@@ -54,17 +61,18 @@ choose_all (word ∷ next ∷ words) = λ chosen.
 
 -- no option is set
 abbrev pub nothing_chosen : Chosen
-nothing_chosen = record { max_simple = None; max_size = None }
+nothing_chosen = record { max_simple = None; max_size = None; demo = None }
 
 -- the options where no word sets one
 abbrev pub default_options : Options
-default_options = record { max_simple = DEFAULT_MAX_SIMPLE; max_size = DEFAULT_MAX_SIZE }
+default_options = record { max_simple = DEFAULT_MAX_SIMPLE; max_size = DEFAULT_MAX_SIZE; demo = None }
 
 -- what was chosen, and the defaults of the others
 abbrev pub with_defaults : Chosen → Options
 with_defaults chosen = record {
   max_simple = unwrap_or chosen.max_simple default_options.max_simple;
   max_size = unwrap_or chosen.max_size default_options.max_size;
+  demo = chosen.demo;
 }
 
 -- the options that the words of the command line set, in any order, each at most once; no other words are accepted
@@ -77,6 +85,7 @@ pub record AreInRanges (chosen : Chosen) : Type 0 where
   pub simple_high : IfSome chosen.max_simple (λ k. k ≤ GREATEST_MAX_SIMPLE)
   pub size_low : IfSome chosen.max_size (λ l. 1 ≤ l)
   pub size_high : IfSome chosen.max_size (λ l. l ≤ GREATEST_MAX_SIZE)
+  pub demo_high : IfSome chosen.demo (λ g. g ≤ MAX_DEMO)
 
 -- an answer is the options of the words, unless memory is wanting
 abbrev pub GivesOptions : Result Options WordsError → Option Options → Type 0
@@ -90,3 +99,4 @@ pub record IsAllowed (options : Options) : Type 0 where
   pub high : options.max_simple ≤ GREATEST_MAX_SIMPLE
   pub some : 1 ≤ options.max_size
   pub few : options.max_size ≤ GREATEST_MAX_SIZE
+  pub demo : IfSome options.demo (λ g. g ≤ MAX_DEMO)

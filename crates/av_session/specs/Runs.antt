@@ -1,6 +1,7 @@
 -- What a run is about: the text due of the words and the bytes, what it says of the class, and what its system generates.
 use Rattle.std.specs.Prelude.{◌≡◌, ℕ, suc, ◌<◌, ◌≤◌, ◌↔◌, ◌⊎◌, List, [], length, flat_map, find, slice_get, Option, Some, None, Ok}
 use Rattle.std.specs.Io.KnownBytes.{IsAtEnd}
+use Rattle.std.specs.Option.{option_and_then}
 use Rattle.av_perm.specs.Members.{In, IsListOf}
 use Rattle.av_perm.specs.Class.{minimal}
 use Rattle.av_perm.specs.Contain.{contains, first_occurrence}
@@ -14,6 +15,7 @@ use Rattle.av_sys.specs.TreeLists.{members, count_of}
 use Rattle.av_sys.specs.Exact.{Exact, Named}
 use Rattle.av_build.specs.Canonical.{grow, grown_size, IsTooLarge, IsCanonical}
 use Rattle.av_text.specs.declared.script.Script.{Script}
+use Rattle.av_text.specs.Demo.{demo_script}
 use Rattle.av_text.specs.Read.{read}
 use Rattle.av_session.specs.declared.options.Options.{Options}
 use Rattle.av_session.specs.Classes.{Class}
@@ -31,12 +33,22 @@ use Rattle.av_session.specs.Solved.{solved, status_of}
 use Rattle.av_session.specs.Status.{FitsText}
 use Rattle.av_session.specs.Taken.{TakesAll}
 
+-- the number of the demo script that the words of the command line ask for
+unfoldable pub demo_asked : List (List ℕ) → Option ℕ
+demo_asked words = option_and_then (λ o. o.demo) (options words)
+
+-- the bytes that are read as a script, where they are known: those of the demo script of a number, or where there is none
+-- those that the source has
+abbrev pub script_bytes : Option ℕ → Option (List ℕ) → Option (List ℕ)
+script_bytes (Some g) left = Some (demo_script g)
+script_bytes None left = left
+
 -- the text due where the words of the command line set these options, or aren't accepted
 abbrev pub due_of : Option Options → List ℕ → List ℕ
 due_of None bytes = []
 due_of (Some options) bytes = text_due options bytes
 
--- the text due of the words of the command line and of the bytes that the source has
+-- the text due of the words of the command line and of the bytes that are read as a script
 unfoldable pub due : List (List ℕ) → List ℕ → List ℕ
 due words bytes = due_of (options words) bytes
 
@@ -44,7 +56,7 @@ abbrev pub Fits_of : Status → Option Options → List ℕ → Type 0
 Fits_of s None bytes = Unit {0}
 Fits_of s (Some options) bytes = FitsText s options bytes
 
--- the status may come with these words, where the source has these bytes
+-- the status may come with these words, where these bytes are read as a script
 unfoldable pub Fits : Status → List (List ℕ) → List ℕ → Type 0
 Fits s words bytes = Fits_of s (options words) bytes
 

@@ -1,10 +1,12 @@
 //! The top call of `permspec`: a script from a source, its answers to a sink.
 //!
-//! [`run`] reads the words of the command line and the whole source, and writes the text due, which
-//! `specs/Due.antt` defines. Its clauses say what each status means for every source and sink, whatever they do.
+//! [`run`] reads the words of the command line and the whole source, or with `--demo` a script of its own, and writes the
+//! text due, which `specs/Due.antt` defines. Its clauses say what each status means for every source and sink, whatever
+//! they do.
 #![tactic(auto)]
 
 mod answers;
+mod command;
 mod draws;
 mod header;
 mod members;

@@ -1,11 +1,18 @@
 // The words of the command line.
-ghost use Rattle.std.specs.Prelude.{◌≡◌, ℕ, ◌≤◌, ◌<◌, List, map, string_bytes, length, IfOk, IfSome, MatchOption, Some, None};
-ghost use Rattle.std.specs.List.{position};
-ghost use Rattle.av_session.specs.Options.{is_equals, cut, set_once, choose_max_simple, choose_max_size, choose, choose_all, nothing_chosen, with_defaults, options, AreInRanges, IsAllowed, GivesOptions};
+ghost use Rattle.std.specs.Prelude.{◌≡◌, ◌≤◌, map, string_bytes, IfOk, IfSome};
+ghost use Rattle.std.specs.List.{list_any};
+ghost use Rattle.std.specs.Option.{option_map};
+ghost use Rattle.clap.specs.Matches.{found_of};
+ghost use Rattle.clap.specs.Values.{kind_of};
+ghost use Rattle.av_session.specs.Options.{with_defaults, options, AreInRanges, IsAllowed, GivesOptions};
+ghost use Rattle.av_session.specs.Command.{value_in, chosen_by, texts_found, is_dashes};
 
+use crate::command::matches;
 use av_build::MAX_SIZE;
 use av_perm::MAX_ROOT_LENGTH;
-use av_text::number_in;
+use av_text::{MAX_DEMO, number_in};
+use clap::error::ErrorKind;
+use clap::{ArgMatches, Error};
 use std::alloc::Global;
 
 /// The least limit of the lengths at which simple words are searched.
@@ -30,6 +37,8 @@ pub struct Options {
     pub max_simple: usize,
     /// The greatest size of a system, its equations and terms together, from 1 to `GREATEST_MAX_SIZE`.
     pub max_size: usize,
+    /// The number of the demo script that stands in place of the source, up to 99,999.
+    pub demo: Option<u32>,
 }
 
 /// Why the words of the command line aren't read.
@@ -43,114 +52,56 @@ pub enum WordsError {
     Words,
 }
 
-/// The values that were set so far.
+/// The values that were set.
 #[derive(Clone, Copy)]
 struct Chosen {
     max_simple: Option<usize>,
     max_size: Option<usize>,
+    demo: Option<u32>,
 }
 
-/// Where the first `=` stands.
-fn equals_sign(word: &[u8]) -> Option<usize>
-    ensures value { result ≡ position is_equals word.now }
-    ensures within { IfSome result (λ at. at < length word.now) }
+/// Whether the word is `--`.
+fn is_dashes(word: &String) -> bool
+    ensures { result ≡ is_dashes (string_bytes word.now) }
 {
-    word.iter().position(|b| *b == b'=')
+    word.as_bytes() == b"--".as_slice()
 }
 
-/// The name and the value of a word with `=`, cut at its first one.
-#[tactic(auto, unfolding(crate::specs::Options::cut))]
-fn cut(word: &[u8]) -> Option<(&[u8], &[u8])>
-    ensures { MatchOption result (cut word.now ≡ None) (λ named. cut word.now ≡ Some (named.0.now, named.1.now)) }
+/// Whether a word is `--`, which stands for no option, and which clap would take for the end of the options.
+fn has_dashes(words: &[String]) -> bool
+    ensures { result ≡ list_any (λ word. is_dashes (string_bytes word)) words.now }
 {
-    match equals_sign(word) {
-        Some(at) => Some((&word[..at], &word[at + 1..])),
-        None => None,
-    }
+    words.iter().any(is_dashes)
 }
 
-/// The value of an option that may not be set yet, a numeral from low to high.
-#[tactic(auto, unfolding(crate::specs::Options::set_once))]
-fn set_once(low: usize, high: usize, before: Option<usize>, value: &[u8]) -> Option<usize>
-    ensures said { result ≡ set_once low high before value.now }
-    ensures low { IfSome result (λ n. low ≤ n) }
-    ensures high { IfSome result (λ n. n ≤ high) }
+/// The number that an option was given, a numeral from low to high, if it was given any.
+fn value_in(value: Option<&str>, low: usize, high: usize) -> Option<Option<usize>>
+    ensures said { result ≡ value_in low high (option_map (λ s. s.now) value.entry) }
+    ensures within { IfSome result (λ number. IfSome number (λ n. (low ≤ n) × (n ≤ high))) }
 {
-    match before {
-        None => match number_in(value, low as u128, high as u128) {
-            Ok(number) => Some(number as usize),
+    match value {
+        None => Some(None),
+        Some(text) => match number_in(text.as_bytes(), low as u128, high as u128) {
+            Ok(number) => Some(Some(number as usize)),
             Err(_) => None,
         },
-        Some(_) => None,
     }
 }
 
-/// Sets `--max-simple`.
-fn choose_max_simple(chosen: Chosen, value: &[u8]) -> Option<Chosen>
-    requires { AreInRanges chosen }
-    ensures said { result ≡ choose_max_simple chosen value.now }
+/// What the values that clap found set, where each is within its range.
+fn values(matches: &ArgMatches<'_>) -> Option<Chosen>
+    ensures said { result ≡ chosen_by (texts_found (found_of matches.now)) }
     ensures ranges { IfSome result AreInRanges }
 {
-    let limit = set_once(
-        LEAST_MAX_SIMPLE,
-        GREATEST_MAX_SIMPLE,
-        chosen.max_simple,
-        value,
-    )?;
+    let simple = matches.get_str("max-simple");
+    let max_simple = value_in(simple, LEAST_MAX_SIMPLE, GREATEST_MAX_SIMPLE)?;
+    let max_size = value_in(matches.get_str("max-size"), 1, GREATEST_MAX_SIZE)?;
+    let demo = value_in(matches.get_str("demo"), 0, MAX_DEMO as usize)?;
     Some(Chosen {
-        max_simple: Some(limit),
-        ..chosen
+        max_simple,
+        max_size,
+        demo: demo.map(|g| g as u32),
     })
-}
-
-/// Sets `--max-size`.
-fn choose_max_size(chosen: Chosen, value: &[u8]) -> Option<Chosen>
-    requires { AreInRanges chosen }
-    ensures said { result ≡ choose_max_size chosen value.now }
-    ensures ranges { IfSome result AreInRanges }
-{
-    let limit = set_once(1, GREATEST_MAX_SIZE, chosen.max_size, value)?;
-    Some(Chosen {
-        max_size: Some(limit),
-        ..chosen
-    })
-}
-
-/// What is chosen after the option of this name and value.
-#[tactic(auto, unfolding(crate::specs::Options::choose))]
-fn choose(chosen: Chosen, name: &[u8], value: &[u8]) -> Option<Chosen>
-    requires { AreInRanges chosen }
-    ensures said { result ≡ choose chosen name.now value.now }
-    ensures ranges { IfSome result AreInRanges }
-{
-    if name == b"--max-simple".as_slice() {
-        choose_max_simple(chosen, value)
-    } else if name == b"--max-size".as_slice() {
-        choose_max_size(chosen, value)
-    } else {
-        None
-    }
-}
-
-/// What is chosen after all these words. Each option can be set once, so no more calls follow one another than there are
-/// options, and one.
-fn choose_all(chosen: Chosen, words: &[String]) -> Option<Chosen>
-    requires { AreInRanges chosen }
-    ensures said { result ≡ choose_all (map string_bytes words.now) chosen }
-    ensures ranges { IfSome result AreInRanges }
-{
-    match words {
-        [] => Some(chosen),
-        [word, rest @ ..] => match cut(word.as_bytes()) {
-            Some((name, value)) => choose_all(choose(chosen, name, value)?, rest),
-            None => match rest {
-                [] => None,
-                [value, rest @ ..] => {
-                    choose_all(choose(chosen, word.as_bytes(), value.as_bytes())?, rest)
-                }
-            },
-        },
-    }
 }
 
 /// What was chosen, and the defaults of the others.
@@ -162,23 +113,38 @@ fn with_defaults(chosen: Chosen) -> Options
     Options {
         max_simple: chosen.max_simple.unwrap_or(DEFAULT_MAX_SIMPLE),
         max_size: chosen.max_size.unwrap_or(DEFAULT_MAX_SIZE),
+        demo: chosen.demo,
     }
 }
 
-/// What the words of the command line set: `--max-simple K`, with K a numeral from 5 to 10, by default 8, and
-/// `--max-size L`, with L a numeral from 1 to 65536, by default 20000. The options come in any order, each at most once,
-/// and each may be one word, as `--max-simple=K`. `Words` comes exactly where they are no such words.
+/// What an error of clap is here. Its text isn't printed.
+fn refusal(error: &Error) -> WordsError
+    ensures { result ≡ WordsError.Words → kind_of error.now ≡ ErrorKind.OutOfMemory → ⊥ }
+{
+    if matches!(error.kind(), ErrorKind::OutOfMemory) {
+        WordsError::Memory
+    } else {
+        WordsError::Words
+    }
+}
+
+/// What the words of the command line set: `--max-simple K`, with K a numeral from 5 to 10, by default 8, `--max-size L`,
+/// with L a numeral from 1 to 65536, by default 20000, and `--demo G`, with G a numeral from 0 to 99999. The options come in
+/// any order, each at most once, and each may be one word, as `--max-simple=K`. `Words` comes exactly where they are no such
+/// words.
 #[tactic(auto, unfolding(crate::specs::Options::options))]
-pub fn read_words(_alloc: Global, words: &[String]) -> Result<Options, WordsError>
+pub fn read_words(alloc: Global, words: &[String]) -> Result<Options, WordsError>
     ensures said { GivesOptions result (options (map string_bytes words.now)) }
     ensures allowed { IfOk result IsAllowed }
 {
-    let nothing = Chosen {
-        max_simple: None,
-        max_size: None,
-    };
-    match choose_all(nothing, words) {
-        Some(chosen) => Ok(with_defaults(chosen)),
-        None => Err(WordsError::Words),
+    if has_dashes(words) {
+        return Err(WordsError::Words);
+    }
+    match matches(alloc, words) {
+        Ok(found) => match values(&found) {
+            Some(chosen) => Ok(with_defaults(chosen)),
+            None => Err(WordsError::Words),
+        },
+        Err(error) => Err(refusal(&error)),
     }
 }

@@ -6,7 +6,7 @@ use av_io::{Failed, MemSink, MemSource, Source, SureSink, SureSource};
 use av_match::minimal;
 use av_perm::{Memory, NotPerm, Perm, Words, is_simple};
 use av_simple::{Outcome, search};
-use av_text::read_script;
+use av_text::{demo_script, read_script};
 use std::alloc::{AllocError, Global};
 use std::test::Fail;
 
@@ -364,26 +364,30 @@ fn counts_of_the_separable_permutations(rt: HostRuntime) -> Result<(), Fail> {
 
 #[test]
 fn other_words_are_refused(rt: HostRuntime) -> Result<(), Fail> {
-    let refused: [&[&str]; 20] = [
-        &["--max-simple", "4"],
+    let refused: [&[&str]; 24] = [
         &["--max-simple", "11"],
+        &["--max-simple=4"],
         &["--max-simple=08"],
         &["--max-simple"],
         &["--max-simple", "8", "--max-simple", "8"],
         &["--max-simple=8", "--max-size=9", "--max-simple=8"],
-        &["--max-simples=8"],
         &["--max-size", "0"],
         &["--max-size", "65537"],
-        &["--max-size=015"],
-        &["--max-size"],
-        &["--max-simple=8", "--max-size"],
-        &["--max-size="],
         &["--max-size=", "5"],
-        &["--max-size= 5"],
         &["--max-size==5"],
         &["--max-size", "--max-simple=8"],
+        &["--demo"],
+        &["--demo="],
+        &["--demo", "100000"],
+        &["--demo", "007"],
+        &["--demo=1", "--demo=1"],
+        &["--dem", "1"],
         &["--"],
         &["--", "--max-simple=8"],
+        &["-h"],
+        &["--help"],
+        &["--version"],
+        &[""],
         &["x"],
     ];
     for words in &refused {
@@ -395,13 +399,15 @@ fn other_words_are_refused(rt: HostRuntime) -> Result<(), Fail> {
 }
 
 #[test]
-fn both_options_are_accepted(rt: HostRuntime) -> Result<(), Fail> {
-    let accepted: [&[&str]; 5] = [
+fn the_options_are_accepted(rt: HostRuntime) -> Result<(), Fail> {
+    let accepted: [&[&str]; 7] = [
         &["--max-size=14"],
         &["--max-simple", "5", "--max-size", "65536"],
         &["--max-size", "1", "--max-simple=10"],
         &["--max-size=1", "--max-simple", "10"],
         &["--max-simple=5", "--max-size=20000"],
+        &["--demo=0"],
+        &["--demo", "99999", "--max-size=1", "--max-simple", "10"],
     ];
     for texts in &accepted {
         let words = command_line(rt.alloc(), texts)?;
@@ -411,6 +417,7 @@ fn both_options_are_accepted(rt: HostRuntime) -> Result<(), Fail> {
     let wanted = Options {
         max_simple: 6,
         max_size: 14,
+        demo: None,
     };
     assert!(rt; read_words(rt.alloc(), &words) == Ok(wanted));
     Ok(())
@@ -430,6 +437,25 @@ fn sources_may_fail_or_give_a_byte_a_call(rt: HostRuntime) -> Result<(), Fail> {
     let status = run(alloc, &[], &mut slow, &mut sink);
     assert!(rt; status == Status::Done);
     assert!(rt; sink.bytes() == CATALAN_ANSWER);
+    Ok(())
+}
+
+// A source that would fail isn't read: the answer is that of the demo script.
+#[test]
+fn a_demo_reads_no_source(rt: HostRuntime) -> Result<(), Fail> {
+    let alloc = rt.alloc();
+    let words = command_line(alloc, &["--demo", "10", "--max-simple=6"])?;
+    let mut source = Resuming::new(Second::Fails);
+    let mut sink = SureSink::new(alloc);
+    let status = run(alloc, &words, &mut source, &mut sink);
+    let Ok(script) = demo_script(alloc, 10) else {
+        assert!(rt; false);
+        return Ok(());
+    };
+    let wanted = run_script(alloc, &["--max-simple=6"], &script)?;
+    assert!(rt; status == wanted.status);
+    assert!(rt; sink.bytes() == wanted.held.as_slice());
+    assert_eq!(rt; source.calls, 0);
     Ok(())
 }
 

@@ -2,23 +2,26 @@
 ghost use Rattle.std.specs.Prelude.{◌≡◌, ◌≤◌, ◌↔◌, List, ℕ, IfSome, Some, None, Ok, map, string_bytes};
 ghost use Rattle.std.specs.Io.KnownBytes.{Keeps};
 ghost use Rattle.av_io.specs.Causes.{Rose};
+ghost use Rattle.av_text.specs.Demo.{demo_script};
 ghost use Rattle.av_text.specs.Read.{read};
 ghost use Rattle.av_text.specs.declared.script.Script.{Script};
 ghost use Rattle.av_session.specs.Options.{options, IsAllowed};
 ghost use Rattle.av_session.specs.Taken.{TakesUpTo};
-ghost use Rattle.av_session.specs.Status.{HoldsText, FitsText};
+ghost use Rattle.av_session.specs.Status.{HoldsText, FitsText, ComesAfterReading};
 ghost use Rattle.av_session.specs.Due.{text_due};
-ghost use Rattle.av_session.specs.Runs.{due, Fits, ReadsWhole, IsComplete, IsAbout, HasCases, WritesSystem};
+ghost use Rattle.av_session.specs.Runs.{demo_asked, script_bytes, due, Fits, ReadsWhole, IsComplete, IsAbout, HasCases, WritesSystem};
 
 use crate::options::{Options, WordsError, read_words};
 use crate::reading::{MOST_READ, ReadError, read_all};
 use crate::session::answer;
 use crate::status::Status;
 use av_io::{Sink, Source};
+use av_perm::Memory;
+use av_text::{MAX_DEMO, demo_script};
 use std::alloc::Global;
 
 /// Reads the script that the source has, and writes the text due of these options.
-fn run_with<S: Source, K: Sink>(
+fn run_source<S: Source, K: Sink>(
     alloc: Global,
     options: &Options,
     source: &mut S,
@@ -43,9 +46,55 @@ fn run_with<S: Source, K: Sink>(
     }
 }
 
-/// Reads the words of the command line and the script that the source has, and writes the text due to the sink.
+/// Writes the text due of these options and of the demo script of a number.
+fn run_demo<K: Sink>(alloc: Global, options: &Options, g: u32, sink: &mut K) -> Status
+    requires options { IsAllowed options.now }
+    requires number { g ≤ MAX_DEMO }
+    ensures answer { ComesAfterReading result }
+    ensures write_fault { result ≡ Status.WriteFault → Rose (K.faults sink.old) (K.faults sink.new) }
+    ensures fits { FitsText result options.now (demo_script g) }
+    ensures text { HoldsText result (K.held sink.old) (K.held sink.new) (text_due options.now (demo_script g)) }
+    ensures later { K.faults sink.old ≤ K.faults sink.new }
+{
+    match demo_script(alloc, g) {
+        Ok(bytes) => answer(alloc, sink, options, &bytes),
+        Err(Memory) => Status::Memory,
+    }
+}
+
+/// Writes the text due of these options: of the demo script, where they have its number, and else of the script that the
+/// source has.
+fn run_with<S: Source, K: Sink>(
+    alloc: Global,
+    options: &Options,
+    source: &mut S,
+    sink: &mut K,
+) -> Status
+    requires { IsAllowed options.now }
+    ensures not_words { result ≡ Status.Words → ⊥ }
+    ensures read_fault { result ≡ Status.ReadFault → Rose (S.faults source.old) (S.faults source.new) }
+    ensures write_fault { result ≡ Status.WriteFault → Rose (K.faults sink.old) (K.faults sink.new) }
+    ensures fits { IfSome (script_bytes options.now.demo (S.left source.old)) (λ bytes. FitsText result options.now bytes) }
+    ensures text { IfSome (script_bytes options.now.demo (S.left source.old)) (λ bytes. HoldsText result (K.held sink.old) (K.held sink.new) (text_due options.now bytes)) }
+    ensures unread_demo { IfSome options.now.demo (λ _. source.new ≡ source.old) }
+    ensures no_read_fault { IfSome options.now.demo (λ _. result ≡ Status.ReadFault → ⊥) }
+    ensures unwritten { result ≡ Status.ReadFault → sink.new ≡ sink.old }
+    ensures took { TakesUpTo MOST_READ (S.left source.old) (S.left source.new) }
+    ensures input { options.now.demo ≡ None → ReadsWhole result (S.left source.old) (S.left source.new) }
+    ensures source_later { S.faults source.old ≤ S.faults source.new }
+    ensures sink_later { K.faults sink.old ≤ K.faults sink.new }
+{
+    match options.demo {
+        Some(g) => run_demo(alloc, options, g, sink),
+        None => run_source(alloc, options, source, sink),
+    }
+}
+
+/// Reads the words of the command line and the script that the source has, or with `--demo` the demo script, and writes the
+/// text due to the sink.
 ///
-/// The text due is a function of the words and of all the bytes of the source, however its reads cut them. Each status
+/// The text due is a function of the words and of all the bytes of the source, however its reads cut them. With `--demo` the
+/// bytes are those of the demo script, whatever the source has, and the source isn't read. Each status
 /// other than `Memory` has its cause: the words (`Words`), a count of faults that rose in this call or stands at its
 /// last value (`ReadFault`, `WriteFault`), the bytes (`Refused`, `Unsettled`, `TooLarge`). `Memory` is free.
 ///
@@ -61,20 +110,22 @@ pub fn run<S: Source, K: Sink>(
     ensures words { result ≡ Status.Words → options (map string_bytes words.now) ≡ None }
     ensures refused_words { options (map string_bytes words.now) ≡ None → (result ≡ Status.Memory → ⊥) → result ≡ Status.Words }
     ensures read_fault { result ≡ Status.ReadFault → Rose (S.faults source.old) (S.faults source.new) }
+    ensures no_read_fault { IfSome (demo_asked (map string_bytes words.now)) (λ _. result ≡ Status.ReadFault → ⊥) }
     ensures write_fault { result ≡ Status.WriteFault → Rose (K.faults sink.old) (K.faults sink.new) }
-    ensures fits { IfSome (S.left source.old) (λ bytes. Fits result (map string_bytes words.now) bytes) }
+    ensures fits { IfSome (script_bytes (demo_asked (map string_bytes words.now)) (S.left source.old)) (λ bytes. Fits result (map string_bytes words.now) bytes) }
 
     // What the sink holds then, and what was read.
-    ensures text { IfSome (S.left source.old) (λ bytes. HoldsText result (K.held sink.old) (K.held sink.new) (due (map string_bytes words.now) bytes)) }
+    ensures text { IfSome (script_bytes (demo_asked (map string_bytes words.now)) (S.left source.old)) (λ bytes. HoldsText result (K.held sink.old) (K.held sink.new) (due (map string_bytes words.now) bytes)) }
     ensures unread { result ≡ Status.Words → source.new ≡ source.old }
+    ensures unread_demo { IfSome (demo_asked (map string_bytes words.now)) (λ _. source.new ≡ source.old) }
     ensures unwritten { result ≡ Status.Words → sink.new ≡ sink.old }
     ensures unwritten_words { options (map string_bytes words.now) ≡ None → sink.new ≡ sink.old }
     ensures unwritten_fault { result ≡ Status.ReadFault → sink.new ≡ sink.old }
     ensures took { TakesUpTo MOST_READ (S.left source.old) (S.left source.new) }
-    ensures input { ReadsWhole result (S.left source.old) (S.left source.new) }
+    ensures input { demo_asked (map string_bytes words.now) ≡ None → ReadsWhole result (S.left source.old) (S.left source.new) }
     ensures source_later { S.faults source.old ≤ S.faults source.new }
     ensures sink_later { K.faults sink.old ≤ K.faults sink.new }
-    ensures complete { IsComplete result (S.left source.old) (map string_bytes words.now) (Rose (S.faults source.old) (S.faults source.new)) (Rose (K.faults sink.old) (K.faults sink.new)) }
+    ensures complete { IsComplete result (script_bytes (demo_asked (map string_bytes words.now)) (S.left source.old)) (map string_bytes words.now) (Rose (S.faults source.old) (S.faults source.new)) (Rose (K.faults sink.old) (K.faults sink.new)) }
 
     // What the text says, in the words of the textbook.
     ensures about { (bytes : List ℕ) (script : Script) → read bytes ≡ Ok script → IsAbout script }

@@ -2,7 +2,7 @@
 use Rattle.std.proofs.Common.{sym}
 use Rattle.av_session.proofs.Abouts.{about, cases}
 use Rattle.av_session.proofs.Systems.{writes_system}
-use Rattle.av_session.proofs.Wholes.{due_text, due_fits, no_options_fits, memory_fits_all, complete_by}
+use Rattle.av_session.proofs.Wholes.{asked_none, asked_some, due_text, due_fits, no_options_fits, memory_fits_all, complete_by}
 use Rattle.av_session.proofs.top.run.Goals as goal
 
 pub returns-in-Ok-clause-fits : goal.returns-in-Ok-clause-fits
@@ -48,3 +48,12 @@ returns-in-Err-Words-clause-cases g c bytes o script e = cases o bytes script e
 
 pub returns-in-Err-Memory-clause-cases : goal.returns-in-Err-Memory-clause-cases
 returns-in-Err-Memory-clause-cases g c bytes o script e = cases o bytes script e
+
+pub returns-in-Ok-clause-unread_demo : goal.returns-in-Ok-clause-unread_demo
+returns-in-Ok-clause-unread_demo g c = asked_some _ c.in-Ok.options _ (sym c.in-Ok.ensures.said) c.run_with.ensures.unread_demo
+
+pub returns-in-Ok-clause-no_read_fault : goal.returns-in-Ok-clause-no_read_fault
+returns-in-Ok-clause-no_read_fault g c = asked_some _ c.in-Ok.options _ (sym c.in-Ok.ensures.said) c.run_with.ensures.no_read_fault
+
+pub returns-in-Ok-clause-input : goal.returns-in-Ok-clause-input
+returns-in-Ok-clause-input g c e = c.run_with.ensures.input (asked_none _ c.in-Ok.options (sym c.in-Ok.ensures.said) e)

@@ -1,6 +1,6 @@
 -- What the bytes that were taken say is what all the bytes of the source say.
 use Rattle.av_session.proofs.Wholes.{text_whole, fits_whole, whole_read}
-use Rattle.av_session.proofs.top.run_with.Goals as goal
+use Rattle.av_session.proofs.top.run_source.Goals as goal
 
 pub returns-in-Ok-clause-fits : goal.returns-in-Ok-clause-fits
 returns-in-Ok-clause-fits g c =

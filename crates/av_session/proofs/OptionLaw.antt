@@ -1,0 +1,365 @@
+-- What clap finds in words without `--` sets the options that the definition says.
+use Rattle.std.proofs.Common.{◌≡◌, ◌⊎◌, ℕ, List, [], ◌∷◌, ◌++◌, Bool, true, false, ◌||◌, ◌&&◌, Option, Some, None, is_some, Err, map, codes, refl, sym, subst, ap, ◌∙◌, inl, inr}
+use Rattle.std.specs.Prelude.{fold}
+use Rattle.std.specs.List.{list_any}
+use Rattle.std.specs.Option.{option_map, option_and_then}
+use Rattle.clap.specs.Walk.{Text, Row, Held, Walk, Waiting, idle, option, has_row, first_of, used, walked, settled, settled_rows, finished, with_default}
+use Rattle.clap.specs.Walk.{rows_of}
+use Rattle.clap.specs.Values.{kind_of}
+use Rattle.clap.specs.declared.error.Error.{Error}
+use Rattle.clap.specs.declared.error.kind.ErrorKind.TheVariants as kind
+use Rattle.clap.specs.declared.parser.matches.Found.{Found}
+use Rattle.clap.proofs.WalkLemmas.{first_value-rows}
+use Rattle.clap.specs.Simple.{matches_of, entered, built}
+use Rattle.clap.specs.Kinds.{Kinds, or_else, IsAmong, HasKind}
+use Rattle.clap.specs.Faults.{turn_fault, walk_fault, settle_fault, defaults_fault, check_fault, fault_of, entered_fault}
+use Rattle.clap.proofs.OnLiterals.{clap_on_literals}
+use Rattle.std.proofs.lemmas.Slice.Eq.{bytes_eq-Decides}
+use Rattle.av_perm.specs.Lists.{same}
+use Rattle.av_text.specs.declared.limits.TheConstants.{MAX_DEMO}
+use Rattle.av_text.specs.Lines.{is_filled}
+use Rattle.av_text.specs.Numerals.{number_in, is_numeral, is_digits}
+use Rattle.av_session.specs.declared.options.TheConstants.{LEAST_MAX_SIMPLE, GREATEST_MAX_SIMPLE, GREATEST_MAX_SIZE}
+use Rattle.av_session.specs.declared.options.Chosen.{Chosen}
+use Rattle.av_session.specs.Command.{Texts, permspec, is_dashes, chosen_by, texts_found}
+use Rattle.av_session.specs.declared.options.WordsError.{WordsError}
+use Rattle.av_session.specs.declared.options.WordsError.TheVariants as error
+use Rattle.av_session.specs.Options.{cut, set_once, choose, choose_all, nothing_chosen, with_defaults, options, GivesOptions}
+use Rattle.av_session.proofs.FirstOptions.{one_word_first, two_words_first, name_alone_first}
+use Rattle.av_session.proofs.OptionWords.{Which, simple, size, demo, name, dashed, before, after, begins, IsStrange, named, strange_chooses, IsCut, cut_of}
+use Rattle.av_session.proofs.OptionRows.{rule, text, given, Holds, holds_given}
+use Rattle.av_session.proofs.OptionTexts.{given_chooses, again_chooses}
+use Rattle.av_session.proofs.OptionSteps.{shape, rules, Pending, at, IsFault, settles, step_joined, fault_joined, repeated, step_apart, fault_apart, first_fault, strange_refused, unsettled_refused, IsTaken, step_value, waiting_unsettled}
+
+-- the texts that rows hold
+abbrev pub texts_in : List Row → Texts
+texts_in rows = record { max_simple = first_of (codes "max-simple") rows; max_size = first_of (codes "max-size") rows; demo = first_of (codes "demo") rows }
+
+-- what rows set, where there is no fault
+abbrev pub reading : Kinds → List Row → Option Chosen
+reading [] rows = chosen_by (texts_in rows)
+reading (k ∷ ks) rows = None
+
+-- the fault of the end
+abbrev ending : Held → Kinds
+ending h = or_else (settle_fault rules false h) (or_else (defaults_fault (settled rules h).rows rules) (check_fault shape (finished rules h) false))
+
+-- what is set by the words that are left
+said : Walk → List Text → Option Chosen
+said w words = reading (or_else (walk_fault shape [] w words) (ending (fold (walked rules []) w words).held)) (finished rules (fold (walked rules []) w words).held)
+
+-- a fault sets nothing
+fault_reads : (k : Kinds) (rows : List Row) → IsFault k → reading k rows ≡ None
+fault_reads [] rows f = absurd f
+fault_reads (k ∷ ks) rows f = refl
+
+turn_refused : (w : Walk) (word : Text) (words : List Text) → IsFault (turn_fault shape [] w word) → said w (word ∷ words) ≡ None
+unfolding said walk_fault
+turn_refused w word words f = fault_reads _ _ (first_fault _ _ (first_fault _ _ f))
+
+-- without one the words after it are read
+turn_taken : (w v : Walk) (word : Text) (words : List Text) → turn_fault shape [] w word ≡ [] → walked rules [] w word ≡ v → said w (word ∷ words) ≡ said v words
+unfolding said walk_fault
+turn_taken w v word words e f = ap (λ k. after_turn k (walked rules [] w word)) e ∙ ap (after_turn []) f
+  where
+    after_turn : Kinds → Walk → Option Chosen
+    after_turn k u = reading (or_else (or_else k (walk_fault shape [] u words)) (ending (fold (walked rules []) u words).held)) (finished rules (fold (walked rules []) u words).held)
+
+-- at the end, what waits to be used is used
+end_unsettled : (rows : List Row) (p : Pending) (waiting : Waiting) → IsFault (settles rows p) → said (at rows p waiting) [] ≡ None
+unfolding said walk_fault
+end_unsettled rows p waiting f = fault_reads _ _ (first_fault _ _ f)
+
+no_defaults : (rows : List Row) → defaults_fault rows rules ≡ []
+unfolding clap_on_literals
+no_defaults rows = by (has_row (codes "max-simple") rows) (has_row (codes "max-size") rows) (has_row (codes "demo") rows) refl refl refl
+  where
+    by : (a b c : Bool) → has_row (codes "max-simple") rows ≡ a → has_row (codes "max-size") rows ≡ b → has_row (codes "demo") rows ≡ c → defaults_fault rows rules ≡ []
+    by true true true e f g = rw (e, f, g) refl
+    by true true false e f g = rw (e, f, g) refl
+    by true false true e f g = rw (e, f, g) refl
+    by true false false e f g = rw (e, f, g) refl
+    by false true true e f g = rw (e, f, g) refl
+    by false true false e f g = rw (e, f, g) refl
+    by false false true e f g = rw (e, f, g) refl
+    by false false false e f g = rw (e, f, g) refl
+
+none_added : (rows : List Row) → fold with_default rows rules ≡ rows
+none_added rows = by (has_row (codes "max-simple") rows) (has_row (codes "max-size") rows) (has_row (codes "demo") rows) refl refl refl
+  where
+    by : (a b c : Bool) → has_row (codes "max-simple") rows ≡ a → has_row (codes "max-size") rows ≡ b → has_row (codes "demo") rows ≡ c → fold with_default rows rules ≡ rows
+    by true true true e f g = rw (e, f, g) refl
+    by true true false e f g = rw (e, f, g) refl
+    by true false true e f g = rw (e, f, g) refl
+    by true false false e f g = rw (e, f, g) refl
+    by false true true e f g = rw (e, f, g) refl
+    by false true false e f g = rw (e, f, g) refl
+    by false false true e f g = rw (e, f, g) refl
+    by false false false e f g = rw (e, f, g) refl
+
+holds_texts : (rows : List Row) (t : Texts) → Holds rows t → texts_in rows ≡ t
+holds_texts rows t h = rw ((h simple).0, (h size).0, (h demo).0) refl
+
+end_settled : (rows : List Row) (p : Pending) (t : Texts) → settles rows p ≡ [] → Holds (settled_rows rules p rows) t → said (at rows p idle) [] ≡ chosen_by t
+unfolding said walk_fault
+end_settled rows p t e h = rw (e, no_defaults (settled_rows rules p rows), none_added (settled_rows rules p rows)) (ap chosen_by (holds_texts (settled_rows rules p rows) t h))
+
+first_false : (a b : Bool) → (a || b) ≡ false → a ≡ false
+first_false true b e = e
+first_false false b e = refl
+
+second_false : (a b : Bool) → (a || b) ≡ false → b ≡ false
+second_false true b e = absurd (let f : true ≡ false = e in cc)
+second_false false b e = e
+
+-- no word is `--`
+abbrev pub HasNoDashes : List Text → Type 0
+HasNoDashes words = list_any is_dashes words ≡ false
+
+-- what is set by the words that are left is what they choose after what was chosen
+abbrev IsRead : List Text → Type 0
+IsRead words = (rows : List Row) (p : Pending) (t : Texts) → settles rows p ≡ [] → Holds (settled_rows rules p rows) t → said (at rows p idle) words ≡ option_and_then (choose_all words) (chosen_by t)
+
+no_words : IsRead []
+unfolding choose_all
+no_words rows p t e h = end_settled rows p t e h ∙ by (chosen_by t)
+  where
+    by : (o : Option Chosen) → o ≡ option_and_then (λ c. Some c) o
+    by None = refl
+    by (Some c) = refl
+
+-- a step that chooses nothing
+none_then : (f : Chosen → Option Chosen) (o : Option Chosen) → ((c : Chosen) → f c ≡ None) → option_and_then f o ≡ None
+none_then f None h = refl
+none_then f (Some c) h = h c
+
+then_none : (f g : Chosen → Option Chosen) (o : Option Chosen) → option_and_then g o ≡ None → option_and_then (λ c. option_and_then f (g c)) o ≡ None
+then_none f g None h = refl
+then_none f g (Some c) h = rw h refl
+
+then_then : (f g : Chosen → Option Chosen) (o : Option Chosen) → option_and_then f (option_and_then g o) ≡ option_and_then (λ c. option_and_then f (g c)) o
+then_then f g None = refl
+then_then f g (Some c) = refl
+
+same_then : (f g : Chosen → Option Chosen) (o : Option Chosen) → ((c : Chosen) → f c ≡ g c) → option_and_then f o ≡ option_and_then g o
+same_then f g None h = refl
+same_then f g (Some c) h = h c
+
+-- a word that is no option
+strange_word : (word : Text) (words : List Text) → same word (codes "--") ≡ false → IsStrange (before word) → IsRead (word ∷ words)
+strange_word word words d s rows p t e h = turn_refused (at rows p idle) word words (strange_refused rows p word d s) ∙ sym (none_then (choose_all (word ∷ words)) (chosen_by t) (λ c. by words (cut_of word) c))
+  where
+    by : (words : List Text) → IsCut word → (c : Chosen) → choose_all (word ∷ words) c ≡ None
+    by words (inr k) c = sym (one_word_first word (before word) (after word) words c k.0) ∙ ap (option_and_then (choose_all words)) (strange_chooses (before word) (after word) c s)
+    by [] (inl k) c = sym (name_alone_first word c k.0)
+    by (next ∷ words) (inl k) c = sym (two_words_first word next words c k.0) ∙ ap (option_and_then (choose_all words)) (strange_chooses word next c (subst IsStrange k.1 s))
+
+-- an option with its value in the same word
+joined_word : (k : Which) (v : Text) (words : List Text) → cut (dashed k ++ 61 ∷ v) ≡ Some (dashed k, v) → IsRead words → IsRead ((dashed k ++ 61 ∷ v) ∷ words)
+joined_word k v words cuts ih rows p t e h = by (text k t) refl ∙ same_then _ _ (chosen_by t) (λ c. one_word_first (dashed k ++ 61 ∷ v) (dashed k) v words c cuts)
+  where
+    held : List Row
+    held = settled_rows rules p rows
+
+    faults : (b : Bool) → has_row (name k) held ≡ b → turn_fault shape [] (at rows p idle) (dashed k ++ 61 ∷ v) ≡ or_else (or_else (settles rows p) (or_else (repeated b) [])) []
+    faults b f = fault_joined k rows p v ∙ ap (λ c. or_else (or_else (settles rows p) (or_else (repeated c) [])) []) f
+
+    by : (o : Option Text) → text k t ≡ o → said (at rows p idle) ((dashed k ++ 61 ∷ v) ∷ words) ≡ option_and_then (λ c. option_and_then (choose_all words) (choose c (dashed k) v)) (chosen_by t)
+    by None f =
+        turn_taken (at rows p idle) (at (used (rule k) (v ∷ []) held) None idle) (dashed k ++ 61 ∷ v) words (faults false ((h k).1 ∙ ap is_some f) ∙ ap (λ s. or_else (or_else s []) []) e) (step_joined k rows p v)
+        ∙ ih (used (rule k) (v ∷ []) held) None (given k v t) refl (holds_given k v held t f h)
+        ∙ ap (option_and_then (choose_all words)) (given_chooses k v t f)
+        ∙ then_then (choose_all words) (λ c. choose c (dashed k) v) (chosen_by t)
+    by (Some w) f =
+        turn_refused (at rows p idle) (dashed k ++ 61 ∷ v) words (subst IsFault (sym (faults true ((h k).1 ∙ ap is_some f) ∙ ap (λ s. or_else (or_else s (or_else (repeated true) [])) []) e)) tt)
+        ∙ sym (then_none (choose_all words) (λ c. choose c (dashed k) v) (chosen_by t) (again_chooses k v w t f))
+
+-- an option that waits for its value, which is used at the next word
+waiting_value : (k : Which) (v : Text) (words : List Text) → IsRead words → HasNoDashes words → (rows : List Row) (t : Texts) → Holds rows t
+    → said (at rows (Some (name k, v ∷ [])) idle) words ≡ option_and_then (λ c. option_and_then (choose_all words) (choose c (dashed k) v)) (chosen_by t)
+waiting_value k v words ih d rows t h = by (text k t) refl
+  where
+    settled_by : (k : Which) (b : Bool) → has_row (name k) rows ≡ b → settles rows (Some (name k, v ∷ [])) ≡ or_else (repeated b) []
+    settled_by simple b f = rw f refl
+    settled_by size b f = rw f refl
+    settled_by demo b f = rw f refl
+
+    used_by : (k : Which) → settled_rows rules (Some (name k, v ∷ [])) rows ≡ used (rule k) (v ∷ []) rows
+    used_by simple = refl
+    used_by size = refl
+    used_by demo = refl
+
+    refused : (words : List Text) → HasNoDashes words → IsFault (settles rows (Some (name k, v ∷ []))) → said (at rows (Some (name k, v ∷ [])) idle) words ≡ None
+    refused [] d f = end_unsettled rows (Some (name k, v ∷ [])) idle f
+    refused (word ∷ words) d f = turn_refused (at rows (Some (name k, v ∷ [])) idle) word words (unsettled_refused rows (Some (name k, v ∷ [])) word f (first_false (is_dashes word) (list_any is_dashes words) d))
+
+    by : (o : Option Text) → text k t ≡ o → said (at rows (Some (name k, v ∷ [])) idle) words ≡ option_and_then (λ c. option_and_then (choose_all words) (choose c (dashed k) v)) (chosen_by t)
+    by None f =
+        ih rows (Some (name k, v ∷ [])) (given k v t) (settled_by k false ((h k).1 ∙ ap is_some f)) (subst (λ rs. Holds rs (given k v t)) (sym (used_by k)) (holds_given k v rows t f h))
+        ∙ ap (option_and_then (choose_all words)) (given_chooses k v t f)
+        ∙ then_then (choose_all words) (λ c. choose c (dashed k) v) (chosen_by t)
+    by (Some w) f =
+        refused words d (subst IsFault (sym (settled_by k true ((h k).1 ∙ ap is_some f))) tt)
+        ∙ sym (then_none (choose_all words) (λ c. choose c (dashed k) v) (chosen_by t) (again_chooses k v w t f))
+
+-- what begins with a hyphen is no value
+not_digits : (ys : Text) → is_digits (45 ∷ ys) ≡ false
+unfolding is_digits
+not_digits ys = by (is_filled (45 ∷ ys))
+  where
+    by : (b : Bool) → (b && false) ≡ false
+    by true = refl
+    by false = refl
+
+unset : (low high : ℕ) (o : Option ℕ) (ys : Text) → set_once low high o (45 ∷ ys) ≡ None
+unfolding set_once number_in is_numeral
+unset low high None ys = rw (not_digits ys) refl
+unset low high (Some n) ys = refl
+
+no_number : (k : Which) (ys : Text) (c : Chosen) → choose c (dashed k) (45 ∷ ys) ≡ None
+unfolding choose
+no_number k ys c = by k
+  where
+    by : (k : Which) → choose c (dashed k) (45 ∷ ys) ≡ None
+    by simple = rw (unset LEAST_MAX_SIMPLE GREATEST_MAX_SIMPLE c.max_simple ys) refl
+    by size = rw (unset 1 GREATEST_MAX_SIZE c.max_size ys) refl
+    by demo = rw (unset 0 MAX_DEMO c.demo ys) refl
+
+-- an option without its value, and the next word
+apart_word : (k : Which) (words : List Text) → HasNoDashes words → cut (dashed k) ≡ None → ((next : Text) (rest : List Text) → words ≡ next ∷ rest → IsRead rest) → IsRead (dashed k ∷ words)
+apart_word k [] d cuts ih rows p t e h =
+    turn_taken (at rows p idle) (at (settled_rows rules p rows) (Some (name k, [])) (option (name k))) (dashed k) [] (fault_apart k rows p ∙ ap (λ s. or_else s []) e) (step_apart k rows p)
+    ∙ end_unsettled (settled_rows rules p rows) (Some (name k, [])) (option (name k)) (waiting_unsettled k (settled_rows rules p rows))
+    ∙ sym (none_then (choose_all (dashed k ∷ [])) (chosen_by t) (λ c. sym (name_alone_first (dashed k) c cuts)))
+apart_word k (next ∷ rest) d cuts ih rows p t e h =
+    turn_taken (at rows p idle) waits (dashed k) (next ∷ rest) (fault_apart k rows p ∙ ap (λ s. or_else s []) e) (step_apart k rows p)
+    ∙ by (step_value k held next (begins next) (first_false (is_dashes next) (list_any is_dashes rest) d))
+    ∙ same_then _ _ (chosen_by t) (λ c. two_words_first (dashed k) next rest c cuts)
+  where
+    held : List Row
+    held = settled_rows rules p rows
+
+    waits : Walk
+    waits = at held (Some (name k, [])) (option (name k))
+
+    by : IsTaken k held next → said waits (next ∷ rest) ≡ option_and_then (λ c. option_and_then (choose_all rest) (choose c (dashed k) next)) (chosen_by t)
+    by (inl f) = turn_refused waits next rest f.0 ∙ sym (then_none (choose_all rest) (λ c. choose c (dashed k) next) (chosen_by t) (none_then (λ c. choose c (dashed k) next) (chosen_by t) (λ c. ap (choose c (dashed k)) f.1.1 ∙ no_number k f.1.0 c)))
+    by (inr f) = turn_taken waits (at held (Some (name k, next ∷ [])) idle) next rest f.0 f.1 ∙ waiting_value k next rest (ih next rest refl) (second_false (is_dashes next) (list_any is_dashes rest) d) held t h
+
+-- one word before others
+one_more_word : (word : Text) (words : List Text) → HasNoDashes (word ∷ words) → IsRead words → ((next : Text) (rest : List Text) → words ≡ next ∷ rest → IsRead rest) → IsRead (word ∷ words)
+one_more_word word words d ih later = by (named (before word)) (cut_of word)
+  where
+    by : ((k : Which) × (before word ≡ dashed k)) ⊎ IsStrange (before word) → IsCut word → IsRead (word ∷ words)
+    by (inr s) c = strange_word word words (first_false (is_dashes word) (list_any is_dashes words) d) s
+    by (inl n) (inl c) =
+        let e : dashed n.0 ≡ word = sym n.1 ∙ c.1 in
+        subst (λ w. IsRead (w ∷ words)) e (apart_word n.0 words (second_false (is_dashes word) (list_any is_dashes words) d) (ap cut e ∙ c.0) later)
+    by (inl n) (inr c) =
+        let e : dashed n.0 ++ 61 ∷ after word ≡ word = sym (c.1 ∙ ap (λ b. b ++ 61 ∷ after word) n.1) in
+        subst (λ w. IsRead (w ∷ words)) e (joined_word n.0 (after word) words (ap cut e ∙ c.0 ∙ ap (λ b. Some (b, after word)) n.1) ih)
+
+all_read : (words : List Text) → HasNoDashes words → IsRead words
+all_read [] d = no_words
+all_read (word ∷ []) d = one_more_word word [] d no_words (λ next rest e. absurd (let f : [] ≡ next ∷ rest = e in cc))
+all_read (word ∷ next ∷ rest) d =
+    let e = second_false (is_dashes word) (list_any is_dashes (next ∷ rest)) d in
+    one_more_word word (next ∷ rest) d (all_read (next ∷ rest) e) (λ n r f. subst IsRead (let g : next ∷ rest ≡ n ∷ r = f in let h : rest ≡ r = cc in h) (all_read rest (second_false (is_dashes next) (list_any is_dashes rest) e)))
+
+-- there is no subcommand
+no_subcommand : (stop : Option (Text × List Text)) → (entered (built permspec) stop ≡ None) × (entered_fault (built permspec) stop ≡ [])
+no_subcommand None = (refl, refl)
+no_subcommand (Some p) = (refl, refl)
+
+-- what clap finds sets what the words choose
+pub options_found : (words : List Text) → HasNoDashes words → reading (fault_of permspec words) (matches_of permspec words) ≡ choose_all words nothing_chosen
+unfolding said
+options_found words d =
+    ap (λ k. reading k (matches_of permspec words)) (ap (λ o. faults (is_some o) (entered_fault (built permspec) stop)) (no_subcommand stop).0 ∙ ap (faults false) (no_subcommand stop).1)
+    ∙ all_read words d [] None (record { max_simple = None; max_size = None; demo = None }) refl none_held
+  where
+    end : Walk
+    end = fold (walked rules []) (at [] None idle) words
+
+    stop : Option (Text × List Text)
+    stop = end.stopped
+
+    faults : Bool → Kinds → Kinds
+    faults b below = or_else (walk_fault shape [] (at [] None idle) words) (or_else below (or_else (settle_fault rules false end.held) (or_else (defaults_fault (settled rules end.held).rows rules) (check_fault shape (finished rules end.held) b))))
+
+    none_held : Holds [] (record { max_simple = None; max_size = None; demo = None })
+    none_held simple = (refl, refl)
+    none_held size = (refl, refl)
+    none_held demo = (refl, refl)
+
+-- so words that clap takes set what its values say
+pub taken : (words : List Text) (found : Found) → HasNoDashes words → fault_of permspec words ≡ [] → rows_of found ≡ matches_of permspec words → options words ≡ option_map with_defaults (chosen_by (texts_found found))
+unfolding options
+taken words found d e f = ap (option_map with_defaults) (sym (options_found words d) ∙ ap (λ k. reading k (matches_of permspec words)) e ∙ ap (λ rs. chosen_by (texts_in rs)) (sym f) ∙ ap chosen_by same_texts)
+  where
+    same_texts : texts_in (rows_of found) ≡ texts_found found
+    same_texts = rw (first_value-rows found (codes "max-simple"), first_value-rows found (codes "max-size"), first_value-rows found (codes "demo")) refl
+
+-- and words that it refuses set nothing
+pub refused : (words : List Text) (cause : WordsError) (e : Error) → HasNoDashes words → (cause ≡ error.Words → kind_of e ≡ kind.OutOfMemory → ⊥) → HasKind (fault_of permspec words) e → GivesOptions (Err cause) (options words)
+unfolding options
+refused words error.Memory e d f h = tt
+refused words error.Words e d f (inl h) = absurd (f refl h)
+refused words error.Words e d f (inr h) = ap (option_map with_defaults) (sym (options_found words d) ∙ fault_reads (fault_of permspec words) (matches_of permspec words) (among (fault_of permspec words) h))
+  where
+    among : (k : Kinds) → IsAmong (kind_of e) k → IsFault k
+    among [] h = h
+    among (x ∷ xs) h = tt
+
+-- words among which `--` is choose nothing
+dashes_value : (word : Text) (c : Chosen) → choose c word (codes "--") ≡ None
+dashes_value word c = by (named word)
+  where
+    by : ((k : Which) × (word ≡ dashed k)) ⊎ IsStrange word → choose c word (codes "--") ≡ None
+    by (inl n) = ap (λ w. choose c w (codes "--")) n.1 ∙ no_number n.0 (codes "-") c
+    by (inr s) = strange_chooses word (codes "--") c s
+
+abbrev IsNothing : List Text → Type 0
+IsNothing words = (c : Chosen) → choose_all words c ≡ None
+
+dashes_first : (words : List Text) → IsNothing (codes "--" ∷ words)
+unfolding cut
+dashes_first [] c = sym (name_alone_first (codes "--") c refl)
+dashes_first (next ∷ rest) c = sym (two_words_first (codes "--") next rest c refl) ∙ ap (option_and_then (choose_all rest)) (strange_chooses (codes "--") next c (refl, refl, refl))
+
+after_none : (words : List Text) (o : Option Chosen) → IsNothing words → option_and_then (choose_all words) o ≡ None
+after_none words o h = none_then (choose_all words) o h
+
+dashes_later : (word next : Text) (rest : List Text) → IsNothing (next ∷ rest) → (is_dashes next ≡ false → IsNothing rest) → IsNothing (word ∷ next ∷ rest)
+dashes_later word next rest h g c = by (cut_of word) (is_dashes next) refl
+  where
+    by : IsCut word → (b : Bool) → is_dashes next ≡ b → choose_all (word ∷ next ∷ rest) c ≡ None
+    by (inr k) b e = sym (one_word_first word (before word) (after word) (next ∷ rest) c k.0) ∙ after_none (next ∷ rest) (choose c (before word) (after word)) h
+    by (inl k) true e =
+        let f : next ≡ codes "--" = (bytes_eq-Decides next (codes "--")).0 e in
+        sym (two_words_first word next rest c k.0) ∙ ap (option_and_then (choose_all rest)) (ap (choose c word) f ∙ dashes_value word c)
+    by (inl k) false e = sym (two_words_first word next rest c k.0) ∙ after_none rest (choose c word next) (g e)
+
+dashes_nothing : (words : List Text) → list_any is_dashes words ≡ true → IsNothing words
+dashes_nothing [] e = absurd (let f : false ≡ true = e in cc)
+dashes_nothing (word ∷ []) e = by (is_dashes word) refl
+  where
+    by : (b : Bool) → is_dashes word ≡ b → IsNothing (word ∷ [])
+    by true f = subst (λ w. IsNothing (w ∷ [])) (sym ((bytes_eq-Decides word (codes "--")).0 f)) (dashes_first [])
+    by false f = absurd (let g : false ≡ true = rw f at e in cc)
+dashes_nothing (word ∷ next ∷ rest) e = by (is_dashes word) refl (dashes_nothing (next ∷ rest)) (dashes_nothing rest)
+  where
+    by : (b : Bool) → is_dashes word ≡ b → (list_any is_dashes (next ∷ rest) ≡ true → IsNothing (next ∷ rest)) → (list_any is_dashes rest ≡ true → IsNothing rest) → IsNothing (word ∷ next ∷ rest)
+    by true f h g = subst (λ w. IsNothing (w ∷ next ∷ rest)) (sym ((bytes_eq-Decides word (codes "--")).0 f)) (dashes_first (next ∷ rest))
+    by false f h g =
+        let d : list_any is_dashes (next ∷ rest) ≡ true = rw f at e in
+        dashes_later word next rest (h d) (λ k. g (rw k at d))
+
+-- the test of strings is that of their bytes
+pub bytes_any : {X : Type 0} (f : X → Text) (words : List X) → list_any (λ w. is_dashes (f w)) words ≡ list_any is_dashes (map f words)
+bytes_any f [] = refl
+bytes_any f (w ∷ words) = ap (λ b. is_dashes (f w) || b) (bytes_any f words)
+
+pub dashes_refused : (words : List Text) → list_any is_dashes words ≡ true → options words ≡ None
+unfolding options
+dashes_refused words e = ap (option_map with_defaults) (dashes_nothing words e nothing_chosen)
