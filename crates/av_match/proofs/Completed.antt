@@ -1,9 +1,10 @@
 -- The first occurrence that begins with given places.
-use Rattle.std.proofs.Common.{◌≡◌, ℕ, zero, suc, ◌+◌, ◌-◌, ◌<◌, ◌≤◌, Bool, true, false, ◌||◌, cond, List, [], ◌∷◌, ◌++◌, map, length, take, find, Some, None, refl, sym, ◌∙◌, ap, ap₂, subst, arith, append_assoc, append-nil}
+use Rattle.std.proofs.Common.{◌≡◌, ℕ, zero, suc, ◌+◌, ◌-◌, ◌<◌, ◌≤◌, inl, inr, Bool, true, false, ◌||◌, cond, List, [], ◌∷◌, ◌++◌, map, length, take, find, Some, None, refl, sym, ◌∙◌, ap, ap₂, subst, arith, append_assoc, append-nil}
 use Rattle.std.specs.List.{list_any}
 use Rattle.std.specs.Option.{option_or, is_some}
 use Rattle.std.proofs.Math.Seq.{take-append_seam}
-use Rattle.std.proofs.lemmas.List.{take_all, map-append, length-append}
+use Rattle.std.proofs.lemmas.Bool.{cases_lt}
+use Rattle.std.proofs.lemmas.List.{take_all, map-append, length-append, get_or-append-add}
 use Rattle.std.proofs.lemmas.List.Folds.{find-append}
 use Rattle.av_perm.specs.Lists.{choices, before_each}
 use Rattle.av_perm.specs.Word.{places}
@@ -12,10 +13,10 @@ use Rattle.av_perm.specs.Relations.{at, SameOrder}
 use Rattle.av_perm.proofs.Membership.{In_map}
 use Rattle.av_perm.proofs.Orders.{order_from, order_to}
 use Rattle.av_perm.proofs.Occurrences.{occurrence_found}
-use Rattle.av_perm.proofs.RisingLists.{length_counting, choices_rise, rising_at}
+use Rattle.av_perm.proofs.RisingLists.{Rising, length_counting, choices_rise, rising_at, rising_up}
 use Rattle.av_perm.proofs.Tests.{any_from, found_any}
 use Rattle.av_match.specs.Places.{ArePlaces}
-use Rattle.av_match.specs.Search.{IsBegun, IsWhole, completed, places_from}
+use Rattle.av_match.specs.Search.{GoesOn, IsBegun, IsWhole, completed, places_from}
 use Rattle.av_match.proofs.Begun.{placed_more}
 
 -- ---- whether anything goes on with the places chosen
@@ -44,7 +45,7 @@ completed_short w p cs from lt =
 
 -- no occurrence begins with the places chosen
 completed_not : (w p cs : List ℕ) (from : ℕ) → 1 ≤ from → length cs ≤ length p → ((s : ℕ) → s < length cs → (1 ≤ at cs s) × (at cs s ≤ length w))
-    → ((rest : List ℕ) → IsWhole w p (cs ++ rest) → ⊥) → completed w p cs (places_from w from) ≡ None
+    → ((rest : List ℕ) → IsWhole w p (cs ++ rest) → Rising from (from + (suc (length w) - from)) rest → ⊥) → completed w p cs (places_from w from) ≡ None
 unfolding completed
 completed_not w p cs from one le placed none =
     let passes : List ℕ → Bool = λ ps. same_order (at_places w ps) p in
@@ -61,7 +62,7 @@ completed_not w p cs from one le placed none =
             (order_from (at_places w (cs ++ q.0)) p (rw (← q.2) r.2));
       };
       count = n;
-    }))
+    }) c.1)
   where
     placed_all : (cs ds : List ℕ) → ((s : ℕ) → s < length cs → (1 ≤ at cs s) × (at cs s ≤ length w)) → ((s : ℕ) → s < length ds → (1 ≤ at ds s) × (at ds s ≤ length w))
         → (s : ℕ) → s < length (cs ++ ds) → (1 ≤ at (cs ++ ds) s) × (at (cs ++ ds) s ≤ length w)
@@ -107,13 +108,65 @@ pub found_later : (w p cs : List ℕ) (from : ℕ) → from ≤ length w → len
 found_later w p cs from le lt e = rw (places_step w from le, completed_step w p cs from (places_from w (from + 1)) lt, ← e) refl
 
 -- none takes the place, since no occurrence goes on with it
-pub found_not : (w p cs : List ℕ) (from : ℕ) → IsBegun w p cs → 1 ≤ from → from ≤ length w → length cs < length p
-    → ((rest : List ℕ) → IsWhole w p (cs ++ from ∷ rest) → ⊥) → completed w p cs (places_from w (from + 1)) ≡ completed w p cs (places_from w from)
-found_not w p cs from begun one le lt none =
-    found_later w p cs from le lt
-    (sym (completed_not w p (cs ++ from ∷ []) (from + 1) (omega arith) (omega (arith, length-append cs (from ∷ [])))
-    (placed_more w p cs from begun one le)
-    (λ rest whole. none rest (subst (λ (ps : List ℕ). IsWhole w p ps) (append_assoc cs (from ∷ []) rest) whole))))
+pub found_not : (w p cs : List ℕ) (from place : ℕ) → IsBegun w p cs → 1 ≤ place → from ≤ place → place ≤ length w → length cs < length p
+    → ((rest : List ℕ) → GoesOn w p cs from place rest → ⊥) → completed w p cs (places_from w (place + 1)) ≡ completed w p cs (places_from w place)
+found_not w p cs from place begun one first le lt none =
+    let hi : ℕ = place + 1 + (suc (length w) - (place + 1)) in
+    let next : place + 1 ≡ suc place = omega arith in
+    found_later w p cs place le lt
+    (sym (completed_not w p (cs ++ place ∷ []) (place + 1) (omega arith) (omega (arith, length-append cs (place ∷ [])))
+    (placed_more w p cs place begun one le)
+    (λ rest whole rise. none rest (record {
+      whole = subst (λ (ps : List ℕ). IsWhole w p ps) (append_assoc cs (place ∷ []) rest) whole;
+      first = first;
+      rising = rising_up place hi (place ∷ rest) (omega arith, omega arith, subst (λ (k : ℕ). Rising k hi rest) next rise);
+    }))))
+
+-- none takes a place from one on up to another, since no occurrence goes on there
+pub found_after : (w p cs : List ℕ) (from place gap : ℕ) → IsBegun w p cs → 1 ≤ place → from ≤ place → length cs < length p
+    → ((q : ℕ) (rest : List ℕ) → place ≤ q → q < place + gap → GoesOn w p cs from q rest → ⊥)
+    → completed w p cs (places_from w (place + gap)) ≡ completed w p cs (places_from w place)
+found_after w p cs from place zero begun one first lt none = let e : place + 0 ≡ place = omega arith in ap (λ (k : ℕ). completed w p cs (places_from w k)) e
+found_after w p cs from place (suc gap) begun one first lt none = elim (cases_lt (length w) place) [
+  | inl past ↦
+      let e : suc (length w) - (place + suc gap) ≡ 0 = omega arith in
+      let f : suc (length w) - place ≡ 0 = omega arith in
+      rw (e, f) refl
+  | inr le ↦
+      let e : place + suc gap ≡ place + 1 + gap = omega arith in
+      ap (λ (k : ℕ). completed w p cs (places_from w k)) e
+      ∙ found_after w p cs from (place + 1) gap begun (omega arith) (omega arith) lt (λ q rest low high. none q rest (omega arith) (omega arith))
+      ∙ found_not w p cs from place begun one first le lt (λ rest. none place rest (omega arith) (omega arith))
+]
+
+-- the same up to the first of some that may be taken
+pub found_least : (w p cs : List ℕ) (from least : ℕ) → IsBegun w p cs → 1 ≤ from → from ≤ least → length cs < length p
+    → ((q : ℕ) (rest : List ℕ) → GoesOn w p cs from q rest → least ≤ q) → completed w p cs (places_from w least) ≡ completed w p cs (places_from w from)
+found_least w p cs from least begun one first lt kept =
+    let e : least ≡ from + (least - from) = omega arith in
+    ap (λ (k : ℕ). completed w p cs (places_from w k)) e
+    ∙ found_after w p cs from from (least - from) begun one (omega arith) lt (λ q rest low high goes. let l = kept q rest goes in omega arith)
+
+-- and none after the last
+pub found_most : (w p cs : List ℕ) (from place most : ℕ) → IsBegun w p cs → 1 ≤ place → from ≤ place → most < place → length cs < length p
+    → ((q : ℕ) (rest : List ℕ) → GoesOn w p cs from q rest → q ≤ most) → completed w p cs (places_from w place) ≡ None
+found_most w p cs from place most begun one first past lt kept =
+    let gap : ℕ = suc (length w) - place in
+    sym (found_after w p cs from place gap begun one first lt (λ q rest low high goes. let l = kept q rest goes in omega arith))
+    ∙ completed_short w p cs (place + gap) (omega arith)
+
+-- places are left in the word for the rest of the pattern
+pub room_left : (w p cs : List ℕ) (from place : ℕ) (rest : List ℕ) → length cs < length p → GoesOn w p cs from place rest
+    → place + (length p - length cs) ≤ length w + 1
+room_left w p cs from place rest lt goes =
+    let long = length-append cs (place ∷ rest) in
+    let last = far (length rest) (omega arith) in
+    let b = goes.whole.begun.placed (length cs + length rest) (omega arith) in
+    omega (arith, b.1, last, goes.whole.count, get_or-append-add cs (place ∷ rest) (length rest) 0)
+  where
+    far : (s : ℕ) → s < length (place ∷ rest) → place + s ≤ at (place ∷ rest) s
+    far zero h = omega arith
+    far (suc s) h = omega (arith, far s (omega arith), goes.rising s (suc s) (omega arith) h)
 
 -- a list after a push and a pop
 pub popped : (cs ds new : List ℕ) (x : ℕ) → ds ≡ cs ++ x ∷ [] → new ≡ take (length ds - 1) ds → new ≡ cs

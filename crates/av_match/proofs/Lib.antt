@@ -2,4 +2,5 @@ pub mod Begun
 pub mod Completed
 pub mod Gathered
 pub mod Missed
+pub mod Narrowing
 pub mod Spreads

@@ -49,7 +49,7 @@ room_above xs p n s g o h f =
 -- ---- the places of an occurrence that begins with those chosen
 
 -- their entries are in the order of the pattern
-whole_order : (w p ps : List ℕ) → IsWhole w p ps → SameOrder (at_places w ps) p
+pub whole_order : (w p ps : List ℕ) → IsWhole w p ps → SameOrder (at_places w ps) p
 whole_order w p ps h = subst (λ (q : List ℕ). SameOrder (at_places w ps) q) (take_all (length ps) p (omega (arith, h.count))) h.begun.order
 
 -- they are numbers of the word

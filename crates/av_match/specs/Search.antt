@@ -1,5 +1,5 @@
 -- What the search for an occurrence keeps.
-use Rattle.std.specs.Prelude.{◌≡◌, ℕ, suc, ◌-◌, ◌<◌, ◌≤◌, Bool, true, false, List, ◌++◌, map, length, take, find, Option, Some, None}
+use Rattle.std.specs.Prelude.{◌≡◌, ℕ, suc, ◌-◌, ◌<◌, ◌≤◌, Bool, true, false, List, ◌∷◌, ◌++◌, map, length, take, find, Option, Some, None}
 use Rattle.av_perm.specs.Lists.{choices, counting}
 use Rattle.av_perm.specs.Contain.{same_order, at_places}
 use Rattle.av_perm.specs.Relations.{at, SameOrder}
@@ -13,6 +13,12 @@ pub record IsBegun (w p chosen : List ℕ) : Type 0 where
 pub record IsWhole (w p chosen : List ℕ) : Type 0 where
   pub begun : IsBegun w p chosen
   pub count : length chosen ≡ length p
+
+-- and the first of the others is the place, which is not before `from`, with the rest after it
+pub record GoesOn (w p chosen : List ℕ) (from place : ℕ) (rest : List ℕ) : Type 0 where
+  pub whole : IsWhole w p (chosen ++ place ∷ rest)
+  pub first : from ≤ place
+  pub rising : (s t : ℕ) → s < t → t < length (place ∷ rest) → at (place ∷ rest) s < at (place ∷ rest) t
 
 -- the first occurrence that begins with the places chosen and goes on with some of xs
 unfoldable pub completed : List ℕ → List ℕ → List ℕ → List ℕ → Option (List ℕ)

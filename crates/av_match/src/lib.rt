@@ -6,6 +6,7 @@ mod class;
 mod contained;
 mod maximal_words;
 mod minimal_words;
+mod narrow;
 mod places;
 mod search;
 #[cfg(test)]

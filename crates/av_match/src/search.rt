@@ -1,9 +1,11 @@
 // The search for an occurrence, by backtracking.
-ghost use Rattle.std.specs.Prelude.{◌≡◌, ℕ, ◌+◌, ◌<◌, ◌≤◌, ◌↔◌, List, [], ◌∷◌, ◌++◌, length, true, false, IsTrue};
+ghost use Rattle.std.specs.Prelude.{◌≡◌, ℕ, ◌+◌, ◌<◌, ◌≤◌, ◌↔◌, List, [], ◌∷◌, ◌++◌, length, true, false, IsTrue, IfSome};
 ghost use Rattle.av_perm.specs.Word.{is_perm, entry};
 ghost use Rattle.av_perm.specs.Contain.{contains, first_occurrence};
-ghost use Rattle.av_match.specs.Search.{completed, places_from, IsBegun, IsWhole, some_if};
+ghost use Rattle.av_match.specs.Narrow.{AreLines, Lies};
+ghost use Rattle.av_match.specs.Search.{completed, places_from, GoesOn, IsBegun, IsWhole, some_if};
 
+use crate::narrow::{Lines, Span, places_left};
 use crate::places::Places;
 use arrayvec::ArrayVec;
 use av_perm::{MAX_LENGTH, Perm};
@@ -41,11 +43,46 @@ fn fitting(word: &[u8], pattern: &[u8], chosen: &[u8]) -> Window
     Window { least, most }
 }
 
-// Extends the places chosen to the first whole occurrence that goes on with places from `from` on. Where there is none,
-// the places chosen are left.
-fn extend(word: &[u8], pattern: &[u8], chosen: &mut ArrayVec<u8, MAX_LENGTH>, from: usize) -> bool
+// The places to try for the pattern's next entry. In a short word that is searched sooner than narrowed, all that leave places
+// for the rest of the pattern.
+fn places_to_try(
+    word: &[u8],
+    pattern: &[u8],
+    lines: Option<&Lines>,
+    chosen: &[u8],
+    from: usize,
+) -> Span
     requires word { IsTrue (is_perm word.now) }
     requires pattern { IsTrue (is_perm pattern.now) }
+    requires lines { IfSome lines (λ held. AreLines word.now pattern.now held.now) }
+    requires begun { IsBegun word.now pattern.now chosen.now }
+    requires fits { length pattern.now ≤ length word.now }
+    requires room { length chosen.now < length pattern.now }
+    ensures first { from ≤ result.least }
+    ensures last { result.most ≤ length word.now }
+    ensures kept { (place : ℕ) (rest : List ℕ) → GoesOn word.now pattern.now chosen.now from place rest → Lies result place }
+{
+    match lines {
+        Some(lines) => places_left(word, pattern, lines, chosen, from),
+        None => Span {
+            least: from,
+            most: word.len() + 1 - (pattern.len() - chosen.len()),
+        },
+    }
+}
+
+// Extends the places chosen to the first whole occurrence that goes on with places from `from` on. Where there is none,
+// the places chosen are left.
+fn extend(
+    word: &[u8],
+    pattern: &[u8],
+    lines: Option<&Lines>,
+    chosen: &mut ArrayVec<u8, MAX_LENGTH>,
+    from: usize,
+) -> bool
+    requires word { IsTrue (is_perm word.now) }
+    requires pattern { IsTrue (is_perm pattern.now) }
+    requires lines { IfSome lines (λ held. AreLines word.now pattern.now held.now) }
     requires begun { IsBegun word.now pattern.now chosen.old.items }
     requires short { length chosen.old.items ≤ length pattern.now }
     requires fits { length pattern.now ≤ length word.now }
@@ -54,23 +91,37 @@ fn extend(word: &[u8], pattern: &[u8], chosen: &mut ArrayVec<u8, MAX_LENGTH>, fr
     ensures found { some_if result chosen.new.items ≡ completed word.now pattern.now chosen.old.items (places_from word.now from) }
     ensures kept { result ≡ false → chosen.new.items ≡ chosen.old.items }
 {
-    let rest = pattern.len() - chosen.len();
-    if rest == 0 {
+    if chosen.len() == pattern.len() {
         return true;
     }
     let window = fitting(word, pattern, chosen.as_slice());
-    // Places are left for the rest of the pattern.
-    for place in from..word.len() + 2 - rest {
+    let span = places_to_try(word, pattern, lines, chosen.as_slice(), from);
+    for place in span.least..span.most + 1 {
         let x = word[place - 1] as usize;
         if window.least <= x && x <= window.most {
             chosen.push(place as u8);
-            if extend(word, pattern, chosen, place + 1) {
+            if extend(word, pattern, lines, chosen, place + 1) {
                 return true;
             }
             chosen.pop();
         }
     }
     false
+}
+
+// The length of a word from which on narrowing takes less time than it saves.
+const LONG: usize = 24;
+
+// The lines of the two, where the word is long.
+fn lines_if_long(word: &[u8], pattern: &[u8]) -> Option<Lines>
+    requires word { IsTrue (is_perm word.now) }
+    requires pattern { IsTrue (is_perm pattern.now) }
+    ensures { IfSome result (AreLines word.now pattern.now) }
+{
+    if word.len() < LONG {
+        return None;
+    }
+    Some(Lines::of(word, pattern))
 }
 
 /// The lexicographically first occurrence of the pattern in the word: its places, from left to right. None exactly
@@ -81,8 +132,11 @@ pub fn find(word: &Perm, pattern: &Perm) -> Option<Places>
     if pattern.len() > word.len() {
         return None;
     }
+    let entries = word.as_slice();
+    let order = pattern.as_slice();
+    let lines = lines_if_long(entries, order);
     let mut chosen = ArrayVec::new();
-    if extend(word.as_slice(), pattern.as_slice(), &mut chosen, 1) {
+    if extend(entries, order, lines.as_ref(), &mut chosen, 1) {
         Some(Places::of(chosen))
     } else {
         None

@@ -38,6 +38,23 @@ fn containment(rt: HostRuntime) {
     assert!(rt; contains(&long, &long));
 }
 
+// 30, 29, .., 1, but for one step up, from 10 to 11 at the places 20 and 21.
+const ONE_STEP_UP: [u8; 30] = [
+    30, 29, 28, 27, 26, 25, 24, 23, 22, 21, 20, 19, 18, 17, 16, 15, 14, 13, 12, 10, 11, 9, 8, 7, 6,
+    5, 4, 3, 2, 1,
+];
+
+#[test]
+fn first_occurrence_in_a_long_word(rt: HostRuntime) {
+    let long = word(ONE_STEP_UP.as_slice());
+    let Some(places) = find(&long, &word(&[4, 2, 3, 1])) else {
+        assert!(rt; false, "an occurrence");
+        return;
+    };
+    assert!(rt; places.as_slice() == [1, 20, 21, 22].as_slice());
+    assert!(rt; !contains(&long, &word(&[1, 2, 3])));
+}
+
 #[test]
 fn the_first_word_that_is_contained(rt: HostRuntime) -> Result<(), Memory> {
     let basis = words(rt.alloc(), &[&[3, 2, 1], &[1, 2, 3], &[1, 3, 2]])?;

@@ -1,14 +1,14 @@
 -- The first occurrence goes on with the loop's place, or else with a later one.
 use Rattle.std.proofs.Common.{◌≡◌, ℕ, ◌+◌, ◌<◌, ◌≤◌, List, [], ◌∷◌, ◌++◌, length, arith, sym, ◌∙◌, ap, subst, Some, None, rules, refl}
-use Rattle.av_match.specs.Search.{IsBegun, IsWhole, completed, places_from}
+use Rattle.av_match.specs.Search.{GoesOn, IsBegun, IsWhole, completed, places_from}
 use Rattle.av_match.proofs.Begun.{in_window}
-use Rattle.av_match.proofs.Completed.{completed_whole, completed_short, found_here, found_later, found_not, popped}
+use Rattle.av_match.proofs.Completed.{completed_whole, found_here, found_later, found_least, found_most, found_not, popped}
 use Rattle.av_match.proofs.search.+extend.Goals as goal
 use Rattle.av_match.proofs.search.+extend.Goals.{then-window-x+then-x-window+else-extend, else-window-x, else-window-x-via-then-window-x+else-x-window, else-window-x-via-else-window-x}
 
-pub returns-then-rest-eq0-clause-found : goal.returns-then-rest-eq0-clause-found
-returns-then-rest-eq0-clause-found t c =
-    sym (completed_whole c.args.word.now c.args.pattern.now c.args.chosen.now.items (places_from c.args.word.now c.args.from) (omega (arith, c.len.ensures.value)) c.requires.begun)
+pub returns-then-len-pattern-clause-found : goal.returns-then-len-pattern-clause-found
+returns-then-len-pattern-clause-found t c =
+    sym (completed_whole c.args.word.now c.args.pattern.now c.args.chosen.now.items (places_from c.args.word.now c.args.from) (omega (arith, c.len.ensures.value, c.if-len-pattern.true)) c.requires.begun)
 
 pub extend-requires : goal.extend-requires
 extend-requires t c =
@@ -35,6 +35,17 @@ returns-then-extend-clause-found t c =
     (subst (λ (ds : List ℕ). Some c.extend.new.chosen.items ≡ completed w p ds (places_from w (place + 1))) pushed c.if-extend.ensures.found)
     ∙ c.loop-place.invariant.none
 
+pub loop-place-init : goal.loop-place-init
+loop-place-init t c =
+    let w = c.args.word.now in
+    let p = c.args.pattern.now in
+    let cs = c.args.chosen.now.items in
+    record {
+      same = refl;
+      none = found_least w p cs c.args.from c.places_to_try-span.result.least c.requires.begun c.requires.first c.places_to_try-span.ensures.first (omega (arith, c.len.ensures.value))
+          (λ q rest goes. (c.places_to_try-span.ensures.kept q rest (subst (λ (ds : List ℕ). GoesOn w p ds c.args.from q rest) (sym c.as_slice-2.ensures.value) goes)).0);
+    }
+
 pub loop-place-preserved : goal.loop-place-preserved
 loop-place-preserved t c =
     let w = c.args.word.now in
@@ -54,8 +65,8 @@ loop-place-preserved t c =
           }
       | else-window-x u ↦ record {
         same = ap (λ v. v.items) u.chosen-is ∙ c.loop-place.invariant.same;
-        none = found_not w p cs place c.requires.begun (omega arith) last short (λ rest whole.
-            let fits = c.fitting-window.ensures.whole place rest (subst (λ (ds : List ℕ). IsWhole w p (ds ++ place ∷ rest)) (sym c.as_slice.ensures.value) whole) in
+        none = found_not w p cs c.args.from place c.requires.begun (omega arith) (omega arith) last short (λ rest goes.
+            let fits = c.fitting-window.ensures.whole place rest (subst (λ (ds : List ℕ). IsWhole w p (ds ++ place ∷ rest)) (sym c.as_slice.ensures.value) goes.whole) in
             let read = (in_window w c.fitting-window.result.least c.fitting-window.result.most place (omega arith)).0 fits in
             elim u.else-window-x.branch [
               | else-window-x-via-then-window-x+else-x-window v ↦ absurd (omega (arith, read.1, v.if-x-window.false))
@@ -66,5 +77,9 @@ loop-place-preserved t c =
 
 pub returns-clause-found : goal.returns-clause-found
 returns-clause-found t c =
-    sym (completed_short c.args.word.now c.args.pattern.now c.args.chosen.now.items c.loop-place.place (omega (arith, c.len.ensures.value)))
+    let w = c.args.word.now in
+    let p = c.args.pattern.now in
+    let cs = c.args.chosen.now.items in
+    sym (found_most w p cs c.args.from c.loop-place.place c.places_to_try-span.result.most c.requires.begun (omega arith) (omega arith) (omega arith) (omega (arith, c.len.ensures.value))
+    (λ q rest goes. (c.places_to_try-span.ensures.kept q rest (subst (λ (ds : List ℕ). GoesOn w p ds c.args.from q rest) (sym c.as_slice-2.ensures.value) goes)).1))
     ∙ c.loop-place.invariant.none

@@ -10,17 +10,17 @@ returns-then-len c =
 
 pub extend-requires-clause-begun : goal.extend-requires-clause-begun
 extend-requires-clause-begun c =
-    subst (λ (cs : List ℕ). IsBegun c.as_slice.result.now c.as_slice-2.result.now cs) (sym c.new-chosen.ensures) (begun_empty c.as_slice.result.now c.as_slice-2.result.now)
+    subst (λ (cs : List ℕ). IsBegun c.as_slice-entries.result.now c.as_slice-order.result.now cs) (sym c.new-chosen.ensures) (begun_empty c.as_slice-entries.result.now c.as_slice-order.result.now)
 
 pub of-requires : goal.of-requires
 of-requires c =
     first_places c.args.word.now c.args.pattern.now c.extend.new.chosen.items
-    (sym (c.if-extend.ensures.found ∙ found_first _ _ _ _ _ c.as_slice.ensures c.as_slice-2.ensures c.new-chosen.ensures))
+    (sym (c.if-extend.ensures.found ∙ found_first _ _ _ _ _ c.as_slice-entries.ensures c.as_slice-order.ensures c.new-chosen.ensures))
 
 pub returns-then-extend : goal.returns-then-extend
 returns-then-extend c =
-    rw c.of.ensures (c.if-extend.ensures.found ∙ found_first _ _ _ _ _ c.as_slice.ensures c.as_slice-2.ensures c.new-chosen.ensures)
+    rw c.of.ensures (c.if-extend.ensures.found ∙ found_first _ _ _ _ _ c.as_slice-entries.ensures c.as_slice-order.ensures c.new-chosen.ensures)
 
 pub returns-else-extend : goal.returns-else-extend
 returns-else-extend c =
-    c.if-extend.ensures.found ∙ found_first _ _ _ _ _ c.as_slice.ensures c.as_slice-2.ensures c.new-chosen.ensures
+    c.if-extend.ensures.found ∙ found_first _ _ _ _ _ c.as_slice-entries.ensures c.as_slice-order.ensures c.new-chosen.ensures
