@@ -13,12 +13,12 @@ mod members;
 mod options;
 mod ranks;
 mod reading;
+#[cfg(test)]
+mod recurrences;
 mod session;
 mod solving;
 mod status;
 mod stop;
-#[cfg(test)]
-mod recurrences;
 #[cfg(test)]
 mod tests;
 mod texts;
