@@ -2,7 +2,8 @@
 """crosscheck.py PROGRAM: runs permspec on small classes, and compares its answers with what is found here from the definitions
 alone. For each class: the list of each length holds exactly the permutations that avoid the basis, each once; the counts are
 how many they are; `rank` and `unrank` lead from each member to its line and back; `rank` of any other permutation names the
-first word of the basis that it contains, at its first occurrence. For three classes that the literature knows, the counts to
+first word of the basis that it contains, at its first occurrence; `draw` gives the members at the ranks that ChaCha20's block
+function leads to, and `drawstat` what their statistics are. For three classes that the literature knows, the counts to
 length 40 are those of a recurrence. Prints a line for each, and ends with 1 on a difference."""
 import subprocess
 import sys
@@ -25,6 +26,53 @@ def occurrence(word, small):
     return None
 
 
+def block(seed, counter):
+    """ChaCha20's block function (RFC 8439) of the key that begins with the seed's 8 bytes, the least first, and is 0 else,
+    with nonce 0: sixteen words."""
+    def rotate(word, by):
+        return (word << by | word >> 32 - by) & 0xffffffff
+
+    def quarter(state, a, b, c, d):
+        for x, y, z, by in ((a, b, d, 16), (c, d, b, 12), (a, b, d, 8), (c, d, b, 7)):
+            state[x] = (state[x] + state[y]) & 0xffffffff
+            state[z] = rotate(state[z] ^ state[x], by)
+
+    start = [0x61707865, 0x3320646e, 0x79622d32, 0x6b206574, seed & 0xffffffff, seed >> 32] + [0] * 6 + [counter, 0, 0, 0]
+    state = list(start)
+    for _ in range(10):
+        for a, b, c, d in ((0, 4, 8, 12), (1, 5, 9, 13), (2, 6, 10, 14), (3, 7, 11, 15),
+                           (0, 5, 10, 15), (1, 6, 11, 12), (2, 7, 8, 13), (3, 4, 9, 14)):
+            quarter(state, a, b, c, d)
+    return [(a + b) & 0xffffffff for a, b in zip(start, state)]
+
+
+def drawn(seed, draw, count):
+    """The rank of a draw: words 4d to 4d + 3 of the key stream as one number, the least first, modulo the count."""
+    words = block(seed, draw // 4)[draw % 4 * 4:draw % 4 * 4 + 4]
+    return sum(word << 32 * i for i, word in enumerate(words)) % count
+
+
+STATISTICS = {
+    "inv": lambda w: sum(a > b for a, b in combinations(w, 2)),
+    "des": lambda w: sum(a > b for a, b in zip(w, w[1:])),
+    "lrm": lambda w: sum(all(a < w[i] for a in w[:i]) for i in range(len(w))),
+}
+
+
+def check_draws(program, basis, length, listed):
+    """Draws from the members of a length, given as their lines."""
+    queries, due = [], []
+    for seed, many in ((0, 3), (10, 40), (2**64 - 1, 9)):
+        rows = [listed[drawn(seed, draw, len(listed))] for draw in range(many)]
+        queries.append(f"draw {length} {seed} {many}")
+        due += [f"{queries[-1]} ="] + [" ".join(row) for row in rows] + ["end"]
+        for name, statistic in STATISTICS.items():
+            values = [statistic(word) for _, word in rows]
+            queries.append(f"drawstat {name} {length} {seed} {many}")
+            due.append(f"{queries[-1]} = least {min(values)} most {max(values)} total {sum(values)}")
+    assert answers(program, basis, queries) == due, (basis, length)
+
+
 def text(word):
     return "".join(map(str, word))
 
@@ -45,7 +93,7 @@ def check_class(program, basis):
         members = {text(word) for word in everyone if bad[word] is None}
         counts.append(len(members))
         lines = answers(program, basis, [f"list {length} for 1000000"])
-        listed = [line.split() for line in lines[1:-1]]
+        listed = [tuple(line.split()) for line in lines[1:-1]]
         assert [rank for rank, _ in listed] == [str(k) for k in range(len(listed))], (basis, length)
         assert len(listed) == len(members) and {word for _, word in listed} == members, (basis, length)
         queries = [f"rank {word}" for _, word in listed] + [f"unrank {length} {rank}" for rank, _ in listed]
@@ -56,9 +104,10 @@ def check_class(program, basis):
                 due.append(f"rank {text(word)} = no {text(bad[word][0])} at {' '.join(map(str, bad[word][1]))}")
         for first in range(0, len(queries), 1000):
             assert answers(program, basis, queries[first:first + 1000]) == due[first:first + 1000], (basis, length)
+        check_draws(program, basis, length, listed)
     line = answers(program, basis, [f"counts {LONGEST}"])
     assert line == [f"counts {LONGEST} = {' '.join(map(str, counts))}"], basis
-    print(f"{basis}: lists, ranks and counts to length {LONGEST} agree")
+    print(f"{basis}: lists, ranks, draws and counts to length {LONGEST} agree")
 
 
 def catalan(n):
