@@ -1,11 +1,11 @@
 -- The answers about the members of a settled class are those of the class.
-use Rattle.std.proofs.Common.{◌≡◌, ◌↔◌, ℕ, suc, ◌<◌, ◌≤◌, inl, inr, List, [], ◌∷◌, length, get_or, find, slice_get, Bool, true, false, is_some, Option, Some, None, refl, sym, ap, ◌∙◌, subst, arith}
+use Rattle.std.proofs.Common.{◌≡◌, ◌↔◌, ℕ, ◌<◌, ◌≤◌, inl, inr, List, [], ◌∷◌, length, get_or, find, slice_get, Bool, true, false, is_some, Option, Some, None, refl, sym, ap, ◌∙◌, subst, arith}
 use Rattle.std.proofs.lemmas.List.{length-map}
 use Rattle.std.proofs.lemmas.Nat.{mod_below}
 use Rattle.std.proofs.lemmas.Option.{slice_get-get_or}
 use Rattle.av_perm.specs.Members.{In, IsListOf}
 use Rattle.av_perm.specs.Contain.{contains, first_occurrence}
-use Rattle.av_perm.specs.Relations.{IsWord, Contains, Avoids, InClass, InClassAt}
+use Rattle.av_perm.specs.Relations.{IsWord, InClass, InClassAt}
 use Rattle.av_perm.proofs.Membership.{Each, at_In}
 use Rattle.av_perm.proofs.Occurrences.{contains_to, occurrence_found}
 use Rattle.av_match.proofs.Completed.{contains_first}

@@ -10,7 +10,6 @@ use Rattle.av_perm.specs.declared.StatKind.{StatKind}
 use Rattle.av_sys.specs.declared.terms.System.{System}
 use Rattle.av_sys.specs.Trees.{value}
 use Rattle.av_sys.specs.TreeLists.{trees, members, members_at, count_of, count_at}
-use Rattle.av_count.specs.declared.count.Count.{Count}
 use Rattle.av_count.specs.declared.count.Count.TheVariants.{Known, Over}
 use Rattle.av_count.specs.Counts.{capped}
 use Rattle.av_print.specs.Text.{ranked_text}

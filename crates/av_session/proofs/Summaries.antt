@@ -2,7 +2,6 @@
 use Rattle.std.proofs.Common.{◌≡◌, ◌⊎◌, inl, inr, ℕ, ◌<◌, ◌≤◌, min, max, List, [], ◌∷◌, length, fold, refl, ◌∙◌, arith}
 use Rattle.std.proofs.lemmas.Bool.{cases_lt}
 use Rattle.av_perm.specs.Members.{In}
-use Rattle.av_session.specs.Drawing.{least_of, greatest_of}
 use Rattle.av_session.specs.Runs.{IsSummary}
 
 -- the least is one of the numbers

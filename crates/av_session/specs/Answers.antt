@@ -1,5 +1,5 @@
 -- The answers of the queries about a settled class.
-use Rattle.std.specs.Prelude.{◌≡◌, ℕ, suc, ◌^◌, ◌≤◌, ◌==◌, List, [], ◌∷◌, length, take, drop, flat_map, find, slice_get, nat_lt, if◌then◌else◌, Option, Some, None, codes, decimal}
+use Rattle.std.specs.Prelude.{ℕ, suc, ◌^◌, ◌==◌, List, [], ◌∷◌, length, take, drop, flat_map, find, slice_get, nat_lt, if◌then◌else◌, Option, Some, None, codes, decimal}
 use Rattle.std.specs.List.{position}
 use Rattle.av_perm.specs.Lists.{same, counting}
 use Rattle.av_perm.specs.Contain.{contains, first_occurrence}

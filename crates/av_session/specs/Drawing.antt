@@ -1,5 +1,5 @@
 -- Draws from a list of words, and what a statistic says of the words drawn.
-use Rattle.std.specs.Prelude.{ℕ, min, max, ◌==◌, List, [], ◌∷◌, length, map, flat_map, fold, sum, get_or, if◌then◌else◌, codes, decimal}
+use Rattle.std.specs.Prelude.{ℕ, min, max, List, [], ◌∷◌, length, map, fold, sum, get_or, codes, decimal}
 use Rattle.av_perm.specs.Lists.{counting}
 use Rattle.av_perm.specs.Stat.{statistic_of}
 use Rattle.av_perm.specs.declared.StatKind.{StatKind}

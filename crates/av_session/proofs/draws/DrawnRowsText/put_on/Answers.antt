@@ -1,9 +1,8 @@
 -- A turn of the loop over the draws, and its ends.
-use Rattle.std.proofs.Common.{◌≡◌, ◌+◌, ◌<◌, ◌≤◌, sym, ap, ◌∙◌, subst, arith}
+use Rattle.std.proofs.Common.{ap, ◌∙◌, subst, arith}
 use Rattle.av_sys.specs.TreeLists.{members}
-use Rattle.av_print.proofs.Written.{AppendsUpTo, up_to_start, up_to_part}
+use Rattle.av_print.proofs.Written.{AppendsUpTo, up_to_start}
 use Rattle.av_session.specs.Answers.{draws_text}
-use Rattle.av_session.specs.Drawing.{draw}
 use Rattle.av_session.proofs.SeedDraws.{draws_all, draws_turn, draws_fault, draws_end}
 use Rattle.av_session.proofs.draws.DrawnRowsText.put_on.Goals as goal
 

@@ -1,7 +1,7 @@
 -- A turn of the loop over the draws, and its end.
-use Rattle.std.proofs.Common.{◌≡◌, ◌+◌, ◌<◌, ◌≤◌, sym, ap, ◌∙◌, subst, arith}
+use Rattle.std.proofs.Common.{ap, ◌∙◌, arith}
 use Rattle.av_sys.specs.TreeLists.{members}
-use Rattle.av_session.specs.Drawing.{draw, draws, drawn_values}
+use Rattle.av_session.specs.Drawing.{draws, drawn_values}
 use Rattle.av_session.proofs.SeedDraws.{summary_first, summary_next, summary_end}
 use Rattle.av_session.proofs.draws.Urn.summary.Goals as goal
 
