@@ -24,6 +24,7 @@ use Rattle.av_text.specs.Numerals.{is_digits, is_numeral, number_in}
 use Rattle.av_text.specs.Read.{unseen, basis_words, basis_said, tokens_said, line_said, lines_said, read}
 use Rattle.av_text.specs.Queries.{form_named, query_with_one, query_with, query_of}
 use Rattle.av_text.specs.Words.{entries_of, checked_word, word_in}
+use Rattle.av_text.proofs.DemoGaps.{demo_gap}
 use Rattle.av_text.proofs.DemoWords.{words_24}
 
 -- a digit is none of the bytes that cut a text
@@ -241,4 +242,4 @@ module _ (g : ℕ) (small : g ≤ MAX_DEMO) where
       few n h = grind arith
 
   pub demo_holds : IsDemo g
-  demo_holds = record { short = few_bytes; lines = lines_are; basis = basis_is; counts = counts_read; allowed = last_allowed; words = last_words; number = number_read; reads = script_read }
+  demo_holds = record { short = few_bytes; lines = lines_are; basis = basis_is; counts = counts_read; allowed = last_allowed; words = last_words; number = number_read; reads = script_read; settled = demo_gap g }

@@ -1,5 +1,6 @@
-pub mod DemoTexts
 pub mod DemoWords
+pub mod DemoGaps
+pub mod DemoTexts
 pub mod Digits
 pub mod Cuts
 pub mod Shorts

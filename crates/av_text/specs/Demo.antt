@@ -1,6 +1,7 @@
 -- The demo scripts, one for each number.
 use Rattle.std.specs.Prelude.{◌≡◌, ℕ, ◌+◌, ◌≤◌, ◌%◌, true, List, [], ◌∷◌, ◌++◌, map, length, codes, decimal, slice_get, unwrap_or, Ok}
 use Rattle.std.specs.List.{list_all}
+use Rattle.av_perm.specs.Laws.{IsLeastGap}
 use Rattle.av_perm.specs.Word.{words}
 use Rattle.av_text.specs.declared.limits.TheConstants.{MAX_DEMO, MAX_SCRIPT_BYTES}
 use Rattle.av_text.specs.declared.queries.Query.{Query}
@@ -59,6 +60,10 @@ draws_line g = codes "drawstat inv 40 " ++ (decimal g ++ codes " 1000")
 abbrev pub basis_seen : Seen
 basis_seen = record { basis = true }
 
+-- the class is settled at the limit, with a gap of at most 5
+abbrev pub HasGap : List (List ℕ) → ℕ → Type 0
+HasGap basis limit = (k : ℕ) × (k ≤ 5) × IsLeastGap basis limit k
+
 -- the demo script of a number is a script with that basis and the counts up to length 160, once its last line asks a query
 pub record IsDemo (g : ℕ) : Type 0 where
   pub short : length (demo_script g) ≤ MAX_SCRIPT_BYTES
@@ -71,6 +76,8 @@ pub record IsDemo (g : ℕ) : Type 0 where
   pub number : (high : ℕ) → g ≤ high → number_in 0 high (decimal g) ≡ Ok g
   pub reads : (draws : Query) → line_said basis_seen (draws_line g) ≡ Ok (Asks draws)
       → read (demo_script g) ≡ Ok (record { basis = demo_basis g; queries = query.Counts 160 ∷ draws ∷ [] })
+  -- from 6 on each limit of lengths settles its class
+  pub settled : (limit : ℕ) → 6 ≤ limit → HasGap (demo_basis g) limit
 
 -- so of every number up to the greatest
 abbrev pub DemoLaw : Type 0
