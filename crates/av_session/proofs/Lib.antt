@@ -11,7 +11,7 @@ pub mod Ends
 pub mod Abouts
 pub mod SolvedClasses
 pub mod Places
-pub mod ListedRows
+pub mod WaitingLines
 pub mod SeedDraws
 pub mod Summaries
 pub mod ClassAnswers

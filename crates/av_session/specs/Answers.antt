@@ -1,5 +1,5 @@
 -- The answers of the queries about a settled class.
-use Rattle.std.specs.Prelude.{ℕ, suc, ◌^◌, ◌==◌, List, [], ◌∷◌, length, take, drop, flat_map, find, slice_get, nat_lt, if◌then◌else◌, Option, Some, None, codes, decimal}
+use Rattle.std.specs.Prelude.{ℕ, ◌^◌, ◌==◌, List, [], length, take, drop, flat_map, find, slice_get, nat_lt, if◌then◌else◌, Option, Some, None, codes, decimal}
 use Rattle.std.specs.List.{position}
 use Rattle.av_perm.specs.Lists.{same, counting}
 use Rattle.av_perm.specs.Contain.{contains, first_occurrence}
@@ -9,6 +9,7 @@ use Rattle.av_sys.specs.TreeLists.{members, count_of}
 use Rattle.av_count.specs.declared.count.Count.{Count}
 use Rattle.av_count.specs.declared.count.Count.TheVariants.{Known, Over}
 use Rattle.av_count.specs.Counts.{capped}
+use Rattle.av_list.specs.Items.{items_from}
 use Rattle.av_text.specs.declared.queries.Query.{Query}
 use Rattle.av_text.specs.declared.queries.Query.TheVariants as query
 use Rattle.av_print.specs.Text.{◌⊹◌, word_text, places_text, ranked_text, count_text, query_text, tree_text}
@@ -30,18 +31,13 @@ spaced_count S m = codes " " ⊹ count_text (member_count S m)
 abbrev pub counts_text : System → ℕ → List ℕ
 counts_text S n = flat_map (spaced_count S) (counting 1 n)
 
--- words with their ranks, from rank r on, as far as ranks are below 2 ^ 128
-abbrev pub ranked_from : ℕ → List (List ℕ) → List (ℕ × List ℕ)
-ranked_from r [] = []
-ranked_from r (w ∷ ws) = if nat_lt r (2 ^ 128) then (r, w) ∷ ranked_from (suc r) ws else []
-
 -- the line of a member with its rank
 abbrev pub row_text : ℕ × List ℕ → List ℕ
 row_text row = ranked_text row.0 row.1
 
--- the lines of the members of length n from rank r on, at most k of them
+-- the lines of the members of length n from rank r on, as far as ranks are below 2 ^ 128, at most k of them
 unfoldable pub rows_text : System → ℕ → ℕ → ℕ → List ℕ
-rows_text S n r k = flat_map row_text (take k (ranked_from r (drop r (members S n))))
+rows_text S n r k = flat_map row_text (take k (items_from r (drop r (members S n))))
 
 -- the member at a rank, or how many members there are
 abbrev pub unranked_text : Count → Option (List ℕ) → List ℕ

@@ -1,21 +1,24 @@
 // The answers of the queries.
-ghost use Rattle.std.specs.Prelude.{◌≡◌, ◌≤◌, IfOk, OnOk, IsErrOf, All, flat_map, codes};
+ghost use Rattle.std.specs.Prelude.{◌≡◌, ◌≤◌, ◌++◌, IfOk, OnOk, IsErrOf, All, flat_map, codes};
 ghost use Rattle.std.specs.Io.KnownBytes.{Appends};
 ghost use Rattle.av_io.specs.Causes.{Rose};
+ghost use Rattle.av_io.specs.Passed.{PassesOn};
 ghost use Rattle.av_print.specs.Wrote.{AppendsPart};
 ghost use Rattle.av_print.specs.Text.{◌⊹◌, query_text};
 ghost use Rattle.av_text.specs.Queries.{IsInRange};
 ghost use Rattle.av_sys.specs.TreeLists.{members};
 ghost use Rattle.av_text.specs.declared.limits.TheConstants.{MAX_DRAWN};
 ghost use Rattle.av_session.specs.Drawing.{draws, drawn_values, summary_text};
-ghost use Rattle.av_session.specs.Answers.{one_line, counts_text, rows_text, member_count, draws_text, drawn_answer, answer_text, length_needed};
+ghost use Rattle.av_session.specs.Answers.{one_line, counts_text, member_count, draws_text, drawn_answer, answer_text, length_needed};
 ghost use Rattle.av_session.specs.Serving.{Serves, IsTableFor, greatest_needed};
 
 use crate::draws::{DrawnRows, Urn};
-use crate::members::{CountsTo, Rows, member_count};
+use crate::listing::put_list;
+use crate::members::{CountsTo, member_count};
 use crate::ranks::{place_of, word_at};
 use crate::solving::SettledClass;
 use crate::stop::Stop;
+use crate::waiting::put_text;
 use av_count::{Count, Table};
 use av_decomp::tree;
 use av_io::{Sink, SureSink};
@@ -81,20 +84,25 @@ fn needed<'a>(class: &SettledClass, table: &'a Option<Table>, n: usize) -> &'a T
 }
 
 /// Writes an answer of one line.
-fn put_line<K: Sink, T: Text>(sink: &mut K, query: &Query, answer: &T) -> Result<(), Stop>
-    ensures whole { OnOk result (Appends (K.held sink.old) (K.held sink.new) (one_line query.now (T.text answer.now))) }
-    ensures part { AppendsPart (K.held sink.old) (K.held sink.new) (one_line query.now (T.text answer.now)) }
+fn put_line<K: Sink, T: Text>(
+    sink: &mut K,
+    waiting: &mut SureSink,
+    query: &Query,
+    answer: &T,
+) -> Result<(), Stop>
+    ensures whole { OnOk result (PassesOn (K.held sink.old) (K.held sink.new) (waiting.old.held ++ one_line query.now (T.text answer.now)) waiting.new.held) }
+    ensures part { AppendsPart (K.held sink.old) (K.held sink.new) (waiting.old.held ++ one_line query.now (T.text answer.now)) }
     ensures later { K.faults sink.old ≤ K.faults sink.new }
     ensures failed { IsErrOf result Stop.WriteFault → Rose (K.faults sink.old) (K.faults sink.new) }
 {
-    (query, Bytes(b" = "), answer, Bytes(b"\n")).put_on(sink)?;
-    Ok(())
+    let line = (query, Bytes(b" = "), answer, Bytes(b"\n"));
+    put_text(sink, waiting, &line)
 }
 
 /// Writes the answer of `counts`: the query, and the number of the members of each length up to n.
-#[tactic(auto, using(av_print::proofs::Written::written))]
 fn put_all_counts<K: Sink>(
     sink: &mut K,
+    waiting: &mut SureSink,
     class: &SettledClass,
     table: &Table,
     query: &Query,
@@ -102,60 +110,37 @@ fn put_all_counts<K: Sink>(
 ) -> Result<(), Stop>
     requires stands { table.now.system ≡ class.now.system }
     requires most { n ≤ table.now.largest }
-    ensures whole { OnOk result (Appends (K.held sink.old) (K.held sink.new) (query_text query.now ⊹ codes " =" ⊹ counts_text class.now.system n ⊹ codes "\n")) }
-    ensures part { AppendsPart (K.held sink.old) (K.held sink.new) (query_text query.now ⊹ codes " =" ⊹ counts_text class.now.system n ⊹ codes "\n") }
+    ensures whole { OnOk result (PassesOn (K.held sink.old) (K.held sink.new) (waiting.old.held ++ (query_text query.now ⊹ codes " =" ⊹ counts_text class.now.system n ⊹ codes "\n")) waiting.new.held) }
+    ensures part { AppendsPart (K.held sink.old) (K.held sink.new) (waiting.old.held ++ (query_text query.now ⊹ codes " =" ⊹ counts_text class.now.system n ⊹ codes "\n")) }
     ensures later { K.faults sink.old ≤ K.faults sink.new }
     ensures failed { IsErrOf result Stop.WriteFault → Rose (K.faults sink.old) (K.faults sink.new) }
 {
     let counts = CountsTo { table, largest: n };
-    (query, Bytes(b" ="), counts, Bytes(b"\n")).put_on(sink)?;
-    Ok(())
-}
-
-/// Writes the answer of `list`: the query, the lines of the members, and `end`.
-fn put_list<K: Sink>(
-    sink: &mut K,
-    class: &SettledClass,
-    table: &Table,
-    query: &Query,
-    n: usize,
-    start: u128,
-    many: u32,
-) -> Result<(), Stop>
-    requires stands { table.now.system ≡ class.now.system }
-    requires least { 1 ≤ n }
-    requires most { n ≤ table.now.largest }
-    ensures whole { OnOk result (Appends (K.held sink.old) (K.held sink.new) (query_text query.now ⊹ codes " =\n" ⊹ rows_text class.now.system n start many ⊹ codes "end\n")) }
-    ensures part { AppendsPart (K.held sink.old) (K.held sink.new) (query_text query.now ⊹ codes " =\n" ⊹ rows_text class.now.system n start many ⊹ codes "end\n") }
-    ensures later { K.faults sink.old ≤ K.faults sink.new }
-    ensures failed { IsErrOf result Stop.WriteFault → Rose (K.faults sink.old) (K.faults sink.new) }
-{
-    let rows = Rows {
-        system: class.system(),
-        table,
-        n,
-        start,
-        many,
-    };
-    (query, Bytes(b" =\n"), rows, Bytes(b"end\n")).put_on(sink)?;
-    Ok(())
+    let line = (query, Bytes(b" ="), counts, Bytes(b"\n"));
+    put_text(sink, waiting, &line)
 }
 
 /// Writes the lines of the members that are drawn, after the query and before `end`.
-fn put_drawn_rows<K: Sink>(sink: &mut K, query: &Query, rows: &DrawnRows<'_>) -> Result<(), Stop>
-    ensures whole { OnOk result (Appends (K.held sink.old) (K.held sink.new) (query_text query.now ⊹ codes " =\n" ⊹ draws_text rows.now.urn.system.now rows.now.urn.n rows.now.seed rows.now.many ⊹ codes "end\n")) }
-    ensures part { AppendsPart (K.held sink.old) (K.held sink.new) (query_text query.now ⊹ codes " =\n" ⊹ draws_text rows.now.urn.system.now rows.now.urn.n rows.now.seed rows.now.many ⊹ codes "end\n") }
+fn put_drawn_rows<K: Sink>(
+    sink: &mut K,
+    waiting: &mut SureSink,
+    query: &Query,
+    rows: &DrawnRows<'_>,
+) -> Result<(), Stop>
+    ensures whole { OnOk result (PassesOn (K.held sink.old) (K.held sink.new) (waiting.old.held ++ (query_text query.now ⊹ codes " =\n" ⊹ draws_text rows.now.urn.system.now rows.now.urn.n rows.now.seed rows.now.many ⊹ codes "end\n")) waiting.new.held) }
+    ensures part { AppendsPart (K.held sink.old) (K.held sink.new) (waiting.old.held ++ (query_text query.now ⊹ codes " =\n" ⊹ draws_text rows.now.urn.system.now rows.now.urn.n rows.now.seed rows.now.many ⊹ codes "end\n")) }
     ensures later { K.faults sink.old ≤ K.faults sink.new }
     ensures failed { IsErrOf result Stop.WriteFault → Rose (K.faults sink.old) (K.faults sink.new) }
 {
-    (query, Bytes(b" =\n"), rows, Bytes(b"end\n")).put_on(sink)?;
-    Ok(())
+    let answer = (query, Bytes(b" =\n"), rows, Bytes(b"end\n"));
+    put_text(sink, waiting, &answer)
 }
 
 /// Writes the answer of `draw`: the query, the lines of the members that are drawn, and `end`, where the number of members is
 /// known and isn't 0.
 fn put_draws<K: Sink>(
     sink: &mut K,
+    waiting: &mut SureSink,
     class: &SettledClass,
     table: &Table,
     query: &Query,
@@ -166,16 +151,16 @@ fn put_draws<K: Sink>(
     requires stands { table.now.system ≡ class.now.system }
     requires least { 1 ≤ n }
     requires most { n ≤ table.now.largest }
-    ensures whole { OnOk result (Appends (K.held sink.old) (K.held sink.new) (drawn_answer query.now (member_count class.now.system n) (query_text query.now ⊹ codes " =\n" ⊹ draws_text class.now.system n seed many ⊹ codes "end\n"))) }
-    ensures part { AppendsPart (K.held sink.old) (K.held sink.new) (drawn_answer query.now (member_count class.now.system n) (query_text query.now ⊹ codes " =\n" ⊹ draws_text class.now.system n seed many ⊹ codes "end\n")) }
+    ensures whole { OnOk result (PassesOn (K.held sink.old) (K.held sink.new) (waiting.old.held ++ (drawn_answer query.now (member_count class.now.system n) (query_text query.now ⊹ codes " =\n" ⊹ draws_text class.now.system n seed many ⊹ codes "end\n"))) waiting.new.held) }
+    ensures part { AppendsPart (K.held sink.old) (K.held sink.new) (waiting.old.held ++ (drawn_answer query.now (member_count class.now.system n) (query_text query.now ⊹ codes " =\n" ⊹ draws_text class.now.system n seed many ⊹ codes "end\n"))) }
     ensures later { K.faults sink.old ≤ K.faults sink.new }
     ensures failed { IsErrOf result Stop.WriteFault → Rose (K.faults sink.old) (K.faults sink.new) }
 {
     match member_count(table, n) {
-        Count::Over => put_line(sink, query, &Bytes(b"over")),
+        Count::Over => put_line(sink, waiting, query, &Bytes(b"over")),
         Count::Known(count) => {
             if count == 0 {
-                return put_line(sink, query, &Bytes(b"none of 0"));
+                return put_line(sink, waiting, query, &Bytes(b"none of 0"));
             }
             let urn = Urn {
                 system: class.system(),
@@ -183,7 +168,7 @@ fn put_draws<K: Sink>(
                 n,
                 count,
             };
-            put_drawn_rows(sink, query, &DrawnRows { urn, seed, many })
+            put_drawn_rows(sink, waiting, query, &DrawnRows { urn, seed, many })
         }
     }
 }
@@ -192,6 +177,7 @@ fn put_draws<K: Sink>(
 /// isn't 0.
 fn put_drawn_statistic<K: Sink>(
     sink: &mut K,
+    waiting: &mut SureSink,
     class: &SettledClass,
     table: &Table,
     query: &Query,
@@ -205,16 +191,16 @@ fn put_drawn_statistic<K: Sink>(
     requires most { n ≤ table.now.largest }
     requires some { 1 ≤ many }
     requires few { many ≤ MAX_DRAWN }
-    ensures whole { OnOk result (Appends (K.held sink.old) (K.held sink.new) (drawn_answer query.now (member_count class.now.system n) (one_line query.now (summary_text (drawn_values kind (draws (members class.now.system n) seed many)))))) }
-    ensures part { AppendsPart (K.held sink.old) (K.held sink.new) (drawn_answer query.now (member_count class.now.system n) (one_line query.now (summary_text (drawn_values kind (draws (members class.now.system n) seed many))))) }
+    ensures whole { OnOk result (PassesOn (K.held sink.old) (K.held sink.new) (waiting.old.held ++ (drawn_answer query.now (member_count class.now.system n) (one_line query.now (summary_text (drawn_values kind (draws (members class.now.system n) seed many)))))) waiting.new.held) }
+    ensures part { AppendsPart (K.held sink.old) (K.held sink.new) (waiting.old.held ++ (drawn_answer query.now (member_count class.now.system n) (one_line query.now (summary_text (drawn_values kind (draws (members class.now.system n) seed many)))))) }
     ensures later { K.faults sink.old ≤ K.faults sink.new }
     ensures failed { IsErrOf result Stop.WriteFault → Rose (K.faults sink.old) (K.faults sink.new) }
 {
     match member_count(table, n) {
-        Count::Over => put_line(sink, query, &Bytes(b"over")),
+        Count::Over => put_line(sink, waiting, query, &Bytes(b"over")),
         Count::Known(count) => {
             if count == 0 {
-                return put_line(sink, query, &Bytes(b"none of 0"));
+                return put_line(sink, waiting, query, &Bytes(b"none of 0"));
             }
             let urn = Urn {
                 system: class.system(),
@@ -222,7 +208,7 @@ fn put_drawn_statistic<K: Sink>(
                 n,
                 count,
             };
-            put_line(sink, query, &urn.summary(kind, seed, many))
+            put_line(sink, waiting, query, &urn.summary(kind, seed, many))
         }
     }
 }
@@ -232,30 +218,38 @@ fn put_drawn_statistic<K: Sink>(
 fn put_answer<K: Sink>(
     alloc: Global,
     sink: &mut K,
+    waiting: &mut SureSink,
     class: &SettledClass,
     table: &Option<Table>,
     query: &Query,
 ) -> Result<(), Stop>
     requires range { IsInRange query.now }
     requires serves { Serves class.now.system (length_needed query.now) table.now }
-    ensures whole { OnOk result (Appends (K.held sink.old) (K.held sink.new) (answer_text class.now query.now)) }
-    ensures part { AppendsPart (K.held sink.old) (K.held sink.new) (answer_text class.now query.now) }
+    ensures whole { OnOk result (PassesOn (K.held sink.old) (K.held sink.new) (waiting.old.held ++ answer_text class.now query.now) waiting.new.held) }
+    ensures part { AppendsPart (K.held sink.old) (K.held sink.new) (waiting.old.held ++ answer_text class.now query.now) }
     ensures later { K.faults sink.old ≤ K.faults sink.new }
     ensures failed { IsErrOf result Stop.WriteFault → Rose (K.faults sink.old) (K.faults sink.new) }
 {
     match query {
         Query::Count { n } => {
             let n = usize::from(*n);
-            put_line(sink, query, &member_count(needed(class, table, n), n))
+            put_line(
+                sink,
+                waiting,
+                query,
+                &member_count(needed(class, table, n), n),
+            )
         }
         Query::Counts { n } => {
             let n = usize::from(*n);
-            put_all_counts(sink, class, needed(class, table, n), query, n)
+            put_all_counts(sink, waiting, class, needed(class, table, n), query, n)
         }
         Query::List { n, start, many } => {
             let n = usize::from(*n);
             put_list(
+                alloc,
                 sink,
+                waiting,
                 class,
                 needed(class, table, n),
                 query,
@@ -266,17 +260,22 @@ fn put_answer<K: Sink>(
         }
         Query::Unrank { n, r } => {
             let n = usize::from(*n);
-            put_line(sink, query, &word_at(class, needed(class, table, n), n, *r))
+            put_line(
+                sink,
+                waiting,
+                query,
+                &word_at(class, needed(class, table, n), n, *r),
+            )
         }
         Query::Rank { word } => {
             let table = needed(class, table, word.len());
-            put_line(sink, query, &place_of(class, table, word))
+            put_line(sink, waiting, query, &place_of(class, table, word))
         }
-        Query::Tree { word } => put_line(sink, query, &tree(alloc, word)?),
+        Query::Tree { word } => put_line(sink, waiting, query, &tree(alloc, word)?),
         Query::Draw { n, seed, many } => {
             let n = usize::from(*n);
             let table = needed(class, table, n);
-            put_draws(sink, class, table, query, n, *seed, *many)
+            put_draws(sink, waiting, class, table, query, n, *seed, *many)
         }
         Query::DrawStat {
             kind,
@@ -286,13 +285,13 @@ fn put_answer<K: Sink>(
         } => {
             let n = usize::from(*n);
             let table = needed(class, table, n);
-            put_drawn_statistic(sink, class, table, query, *kind, n, *seed, *many)
+            put_drawn_statistic(sink, waiting, class, table, query, *kind, n, *seed, *many)
         }
     }
 }
 
 /// Writes the answers of the queries in order, with a table that serves them. They wait in memory until they make a large
-/// piece.
+/// piece; a list passes such pieces on while it runs.
 fn put_each<K: Sink>(
     alloc: Global,
     sink: &mut K,
@@ -308,8 +307,7 @@ fn put_each<K: Sink>(
 {
     let mut waiting = SureSink::new(alloc);
     for query in queries.as_slice() {
-        put_answer(alloc, &mut waiting, class, table, query)?;
-        waiting.pass_on_large(sink)?;
+        put_answer(alloc, sink, &mut waiting, class, table, query)?;
     }
     waiting.pass_on(sink)?;
     Ok(())

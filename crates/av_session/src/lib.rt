@@ -9,6 +9,7 @@ mod answers;
 mod command;
 mod draws;
 mod header;
+mod listing;
 mod members;
 mod options;
 mod ranks;
@@ -23,6 +24,7 @@ mod stop;
 mod tests;
 mod texts;
 mod top;
+mod waiting;
 
 pub use options::{Options, WordsError, read_words};
 pub use solving::{SettledClass, Solved, solve};

@@ -1,12 +1,10 @@
-// The members of a class: how many there are, and the lines of a list.
+// The numbers of the members of a class.
 ghost use Rattle.std.specs.Prelude.{◌≡◌, ◌≤◌};
 ghost use Rattle.av_session.specs.Answers.{member_count};
 
 use av_count::{Count, Table};
 use av_io::{Sink, SinkFault};
-use av_print::{Bytes, RankedWord, Text};
-use av_sys::System;
-use av_tree::unrank;
+use av_print::{Bytes, Text};
 
 /// How many members of a length there are.
 #[tactic(auto, unfolding(av_sys::specs::TreeLists::count_of))]
@@ -35,41 +33,6 @@ impl Text for CountsTo<'_> {
         let _largest = self.table.largest();
         for m in 1..self.largest + 1 {
             (Bytes(b" "), member_count(self.table, m)).put_on(sink)?;
-        }
-        Ok(())
-    }
-}
-
-/// The lines of the members of length n from a rank on, at most so many, each with its rank.
-#[derive(Clone, Copy)]
-pub struct Rows<'a> {
-    pub system: &'a System,
-    pub table: &'a Table,
-    pub n: usize,
-    pub start: u128,
-    pub many: u32,
-    ghost stands: { table.now.system ≡ system.now },
-    ghost least: { 1 ≤ n },
-    ghost most: { n ≤ table.now.largest },
-}
-
-impl Text for Rows<'_> {
-    ghost use Rattle.av_session.specs.Answers.{rows_text};
-
-    ghost text = { λ rows. rows_text rows.system.now rows.n rows.start rows.many };
-
-    fn put_on<K: Sink>(&self, sink: &mut K) -> Result<(), SinkFault> {
-        let mut rank = self.start;
-        for k in 0..self.many {
-            let Some(word) = unrank(self.system, self.table, self.n, rank) else {
-                return Ok(());
-            };
-            let row = RankedWord { rank, word: &word };
-            row.put_on(sink)?;
-            let Some(next) = rank.checked_add(1) else {
-                return Ok(());
-            };
-            rank = next;
         }
         Ok(())
     }

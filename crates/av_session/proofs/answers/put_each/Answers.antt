@@ -1,12 +1,13 @@
 -- A turn of the loop over the queries, and what is held at each end.
-use Rattle.std.proofs.Common.{◌≡◌, List, ℕ, ◌++◌, length, flat_map, All, sym, ap, ◌∙◌, subst, arith}
+use Rattle.std.proofs.Common.{List, ◌++◌, flat_map, All, sym, ap, subst, arith}
 use Rattle.std.proofs.lemmas.List.{drop_all}
 use Rattle.av_io.specs.Mem.{SureSinkState}
 use Rattle.av_text.specs.declared.queries.Query.{Query}
 use Rattle.av_print.proofs.Written.{AppendsUpTo, up_to_start, up_to_part, up_to_next, up_to_end}
-use Rattle.av_print.proofs.WaitingTexts.{gathered_turn, up_to_passed}
+use Rattle.av_print.proofs.WaitingTexts.{up_to_passed}
 use Rattle.av_session.specs.Answers.{answer_text, length_needed}
 use Rattle.av_session.specs.Serving.{Serves}
+use Rattle.av_session.proofs.WaitingLines.{item_waits, item_fails}
 use Rattle.av_session.proofs.answers.put_each.Goals as goal
 
 pub loop-query-init : goal.loop-query-init
@@ -24,18 +25,15 @@ put_answer-requires-clause-serves g c =
     subst (λ q. Serves c.args.class.now.system (length_needed q) c.args.table.now) (sym c.query-item.is) (all c.loop-query.query-index c.query-item.result c.loop-query-test.true)
 
 pub returns-in_err-put_answer-clause-part : goal.returns-in_err-put_answer-clause-part
-returns-in_err-put_answer-clause-part g c = up_to_part _ _ _ _ c.loop-query.invariant.written
-
-pub returns-in_err-pass_on_large-clause-part : goal.returns-in_err-pass_on_large-clause-part
-returns-in_err-pass_on_large-clause-part g c =
-    up_to_part _ _ _ _ (gathered_turn (answer_text c.args.class.now) c.as_slice-query-items.result.now c.loop-query.query-index c.query-item.result _ _ _ _ _ _ _
-    c.loop-query-test.true c.query-item.is c.loop-query.invariant.written c.in_ok-put_answer.ensures.whole c.in_err-pass_on_large.ensures.passed)
+returns-in_err-put_answer-clause-part g c =
+    item_fails (answer_text c.args.class.now) c.as_slice-query-items.result.now c.loop-query.query-index c.query-item.result _ _ _ _ _
+    c.loop-query-test.true c.query-item.is c.loop-query.invariant.written c.in_err-put_answer.ensures.part
 
 pub loop-query-preserved : goal.loop-query-preserved
 loop-query-preserved g c = record {
-  written = gathered_turn (answer_text c.args.class.now) c.as_slice-query-items.result.now c.loop-query.query-index c.query-item.result _ _ _ _ _ _ _
-      c.loop-query-test.true c.query-item.is c.loop-query.invariant.written c.in_ok-put_answer.ensures.whole c.in_ok-pass_on_large.ensures.passed;
-  faults = omega (arith, c.loop-query.invariant.faults, c.in_ok-pass_on_large.ensures.later);
+  written = item_waits (answer_text c.args.class.now) c.as_slice-query-items.result.now c.loop-query.query-index c.query-item.result _ _ _ _ _ _
+      c.loop-query-test.true c.query-item.is c.loop-query.invariant.written c.in_ok-put_answer.ensures.whole;
+  faults = omega (arith, c.loop-query.invariant.faults, c.in_ok-put_answer.ensures.later);
 }
 
 pub returns-in_err-pass_on-clause-part : goal.returns-in_err-pass_on-clause-part
