@@ -1,5 +1,6 @@
 -- What holds of vertices that were placed and of what is due.
 use Rattle.std.specs.Prelude.{◌≡◌, ◌⊎◌, ℕ, ◌+◌, ◌*◌, ◌-◌, ◌<◌, ◌≤◌, List, [], ◌∷◌, ◌++◌, length}
+use Rattle.av_perm.specs.declared.limits.TheConstants.{MAX_LENGTH}
 use Rattle.av_count.specs.declared.count.Count.{Count}
 use Rattle.av_count.specs.Counts.{capped}
 use Rattle.av_sys.specs.TreeLists.{count_at}
@@ -67,10 +68,10 @@ Fit n [] ds = ds ≡ []
 Fit n (r ∷ rs) [] = ⊥
 Fit n (r ∷ rs) (d ∷ ds) = (r + d.size ≤ n) × Fit n rs ds
 
--- `out` is written and these vertices, raised by these numbers, write the rest of the word, of at most 160 entries
+-- `out` is written and these vertices, raised by these numbers, write the rest of the word, of at most `MAX_LENGTH` entries
 pub record Writing (S : System) (rs : List ℕ) (xs : List Vertex) (out word : List ℕ) : Type 0 where
   pub waiting : List Due
   pub completes : Completes S waiting xs
-  pub fit : Fit 160 rs waiting
-  pub room : length out + due_sizes waiting ≤ 160
+  pub fit : Fit MAX_LENGTH rs waiting
+  pub room : length out + due_sizes waiting ≤ MAX_LENGTH
   pub rest : out ++ written S rs xs ≡ word

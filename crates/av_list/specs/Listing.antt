@@ -1,5 +1,6 @@
 -- What a lister holds.
 use Rattle.std.specs.Prelude.{◌≡◌, ℕ, ◌≤◌, Bool, [], IsTrue, drop}
+use Rattle.av_perm.specs.declared.limits.TheConstants.{MAX_LENGTH}
 use Rattle.av_sys.specs.declared.terms.System.{System}
 use Rattle.av_sys.specs.Terms.{IsWellFormed}
 use Rattle.av_count.specs.Tables.{Stands}
@@ -21,5 +22,5 @@ pub record IsListing (S : System) (table : Stands) (p : Progress) (rank : ℕ) (
   pub stands : table.system ≡ S
   pub least : 1 ≤ p.size
   pub most : p.size ≤ table.largest
-  pub limit : p.size ≤ 160
+  pub limit : p.size ≤ MAX_LENGTH
   pub placed : IsTrue more → IsEntry S p rank

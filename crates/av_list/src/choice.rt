@@ -13,6 +13,7 @@ ghost use Rattle.av_list.specs.Picked.{TermFound, Begins, Picked};
 use crate::sizes::{NodeTerm, first_sizes, next_sizes};
 use crate::vertex::{Sizes, Vertex};
 use av_count::{Count, Table, term, terms};
+use av_perm::MAX_LENGTH;
 use av_sys::{System, Term};
 use av_tree::{Cut, term_count};
 
@@ -146,7 +147,7 @@ pub fn next_vertex(system: &System, table: &Table, vertex: Vertex) -> Option<Ver
     requires formed { IsWellFormed system.now }
     requires stands { table.now.system ≡ system.now }
     requires most { vertex.size ≤ table.now.largest }
-    requires size { vertex.size ≤ 160 }
+    requires size { vertex.size ≤ MAX_LENGTH }
     requires sound { Sound system.now vertex }
     ensures { MatchOption result (weighed (trees_under system.now) (vertices_after system.now vertex) ≡ 0) (λ y. Picked system.now vertex.equation vertex.size 1 (vertices_after system.now vertex) 0 y 0) }
 {
@@ -197,7 +198,7 @@ fn next_same(system: &System, table: &Table, vertex: Vertex) -> Option<Vertex>
     requires formed { IsWellFormed system.now }
     requires stands { table.now.system ≡ system.now }
     requires most { vertex.size ≤ table.now.largest }
-    requires size { vertex.size ≤ 160 }
+    requires size { vertex.size ≤ MAX_LENGTH }
     requires sound { Sound system.now vertex }
     ensures { MatchOption result (weighed (trees_under system.now) (same_after vertex) ≡ 0) (λ y. Picked system.now vertex.equation vertex.size 1 (vertices_after system.now vertex) 0 y 0) }
 {

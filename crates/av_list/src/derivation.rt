@@ -3,7 +3,7 @@ ghost use Rattle.std.specs.Prelude.{◌≡◌, ◌<◌, ◌≤◌, ◌+◌, ◌*
 ghost use Rattle.av_list.specs.Progress.{Progress};
 
 use crate::vertex::{Due, Vertex};
-use av_perm::Memory;
+use av_perm::{MAX_LENGTH, Memory};
 use std::alloc::Global;
 use std::marker::Model;
 
@@ -31,7 +31,7 @@ impl Derivation {
     // Nothing is placed, and nothing due.
     pub fn new(alloc: Global, size: usize) -> Result<Derivation, Memory>
         requires least { 1 ≤ size }
-        requires most { size ≤ 160 }
+        requires most { size ≤ MAX_LENGTH }
         ensures { IfOk result (λ p. (p.size ≡ size) × (p.placed ≡ []) × (p.due ≡ [])) }
     {
         let Ok(vertices) = Vec::with_capacity(alloc, 2 * size - 1) else {

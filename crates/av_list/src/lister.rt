@@ -14,7 +14,7 @@ use crate::vertex::Due;
 use crate::walk::{complete, retract};
 use crate::word::entries;
 use av_count::Table;
-use av_perm::{Memory, Perm};
+use av_perm::{MAX_LENGTH, Memory, Perm};
 use av_sys::System;
 use std::alloc::Global;
 use std::marker::Model;
@@ -49,7 +49,7 @@ fn advance(system: &System, table: &Table, derivation: &mut Derivation) -> bool
     requires formed { IsWellFormed system.now }
     requires stands { table.now.system ≡ system.now }
     requires least { 1 ≤ derivation.old.size }
-    requires limit { derivation.old.size ≤ 160 }
+    requires limit { derivation.old.size ≤ MAX_LENGTH }
     requires most { derivation.old.size ≤ table.now.largest }
     requires some { 0 < count_at system.now 0 derivation.old.size }
     requires derives { Derives system.now derivation.old.size derivation.old.placed [] }
@@ -70,7 +70,7 @@ fn advance(system: &System, table: &Table, derivation: &mut Derivation) -> bool
 // The word of the tree that is placed.
 fn word(system: &System, derivation: &Derivation) -> Perm
     requires formed { IsWellFormed system.now }
-    requires limit { derivation.now.size ≤ 160 }
+    requires limit { derivation.now.size ≤ MAX_LENGTH }
     requires derives { Derives system.now derivation.now.size derivation.now.placed [] }
     requires word { IsTrue (is_perm (word_of system.now (onto derivation.now.placed []))) }
     ensures { result ≡ word_of system.now (onto derivation.now.placed []) }

@@ -1,5 +1,6 @@
 // The lists of sizes of a term's children, one after another.
 ghost use Rattle.std.specs.Prelude.{◌≡◌, ◌<◌, ◌≤◌, ◌+◌, ◌-◌, ◌*◌, [], ◌∷◌, ◌++◌, ◌↔◌, ℕ, List, IsTrue, false, length, drop, take, slice_index_or, MatchOption};
+ghost use Rattle.av_perm.specs.declared.limits.TheConstants.{MAX_ROOT_LENGTH};
 ghost use Rattle.av_perm.specs.Lists.{size_lists};
 ghost use Rattle.av_sys.specs.Terms.{terms_at, term_at, children_of};
 ghost use Rattle.av_count.specs.Counts.{capped};
@@ -10,6 +11,7 @@ ghost use Rattle.av_list.specs.Sizes.{sum_of, weight, weighed, sizes_after, Firs
 
 use crate::vertex::Sizes;
 use av_count::{Count, Table};
+use av_perm::MAX_LENGTH;
 use av_sys::Children;
 use av_tree::{Cut, choose_size, rest_count};
 
@@ -24,7 +26,7 @@ pub struct NodeTerm<'a> {
     ghost term_known: { term < length (terms_at table.now.system equation) },
     ghost node: { children_of (term_at table.now.system equation term) ≡ children.now },
     ghost known: { (k : ℕ) → k < length children.now → slice_index_or children.now k 0 < length table.now.system.equations },
-    ghost ten: { length children.now ≤ 10 },
+    ghost few: { length children.now ≤ MAX_ROOT_LENGTH },
 }
 
 // Whether the number is not 0.
@@ -166,7 +168,7 @@ pub fn first_sizes(
 pub fn next_sizes(node: &NodeTerm, i: usize, size: usize, sizes: &mut Sizes) -> bool
     requires i { i ≤ length node.now.children.now }
     requires most { size ≤ node.now.table.now.largest }
-    requires size { size ≤ 160 }
+    requires size { size ≤ MAX_LENGTH }
     requires placed { length sizes.old ≡ length node.now.children.now }
     requires sum { sum_of (drop i sizes.old) ≡ size }
     requires some { 0 < weight (count_at node.now.table.now.system) (drop i node.now.children.now) (drop i sizes.old) }
@@ -190,7 +192,7 @@ pub fn next_sizes(node: &NodeTerm, i: usize, size: usize, sizes: &mut Sizes) -> 
 fn begin_sizes(node: &NodeTerm, i: usize, size: usize, least: usize, sizes: &mut Sizes) -> bool
     requires i { i < length node.now.children.now }
     requires most { size ≤ node.now.table.now.largest }
-    requires size { size ≤ 160 }
+    requires size { size ≤ MAX_LENGTH }
     requires one { 1 ≤ least }
     requires least { least ≤ size + 1 }
     requires placed { length sizes.old ≡ i }

@@ -2,12 +2,13 @@
 ghost use Rattle.std.specs.Prelude.{◌≡◌, ◌<◌, ◌++◌, [], ◌∷◌, length, slice_index, take};
 
 use arrayvec::ArrayVec;
+use av_perm::MAX_ROOT_LENGTH;
 use std::marker::Model;
 
 // The sizes of a vertex's subtrees.
 #[derive(Drop)]
 pub struct Sizes {
-    items: ArrayVec<usize, 10>,
+    items: ArrayVec<usize, MAX_ROOT_LENGTH>,
 }
 
 impl Model for Sizes {
@@ -45,7 +46,7 @@ impl Sizes {
 
     // Appends a size.
     pub fn push(&mut self, size: usize)
-        requires { length self.old < 10 }
+        requires { length self.old < MAX_ROOT_LENGTH }
         ensures { self.new ≡ self.old ++ size ∷ [] }
     {
         self.items.push(size);

@@ -12,6 +12,7 @@ use crate::choice::{choose, next_vertex};
 use crate::derivation::Derivation;
 use crate::vertex::{Due, Vertex};
 use av_count::{Count, Table, term};
+use av_perm::MAX_LENGTH;
 use av_sys::{System, Term};
 
 // Makes a tree due for each child of a vertex.
@@ -123,7 +124,7 @@ pub fn retract(system: &System, table: &Table, derivation: &mut Derivation) -> b
     requires formed { IsWellFormed system.now }
     requires stands { table.now.system ≡ system.now }
     requires least { 1 ≤ derivation.old.size }
-    requires limit { derivation.old.size ≤ 160 }
+    requires limit { derivation.old.size ≤ MAX_LENGTH }
     requires most { derivation.old.size ≤ table.now.largest }
     requires some { 0 < count_at system.now 0 derivation.old.size }
     requires derives { Derives system.now derivation.old.size derivation.old.placed derivation.old.due }

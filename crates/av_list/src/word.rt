@@ -11,14 +11,14 @@ ghost use Rattle.av_list.specs.Derivations.{Completes, Writing};
 use crate::vertex::{Sizes, Vertex};
 use arrayvec::ArrayVec;
 use av_count::term;
-use av_perm::Perm;
+use av_perm::{MAX_LENGTH, Perm};
 use av_sys::{System, Term};
 
 // The sum of the sizes of the children whose entry in the root is below entry i.
 fn lower_sizes(root: &Perm, sizes: &Sizes, i: usize) -> usize
     requires i { i < length root.now }
     requires many { length sizes.now ≡ length root.now }
-    requires most { lower (slice_index root.now i) root.now sizes.now ≤ 160 }
+    requires most { lower (slice_index root.now i) root.now sizes.now ≤ MAX_LENGTH }
     ensures { result ≡ lower (slice_index root.now i) root.now sizes.now }
 {
     let entries = root.as_slice();
@@ -33,10 +33,10 @@ fn lower_sizes(root: &Perm, sizes: &Sizes, i: usize) -> usize
 }
 
 // Adds by how much each child is raised, the first last.
-fn add_raises(root: &Perm, sizes: &Sizes, raise: usize, out: &mut ArrayVec<usize, 160>)
+fn add_raises(root: &Perm, sizes: &Sizes, raise: usize, out: &mut ArrayVec<usize, MAX_LENGTH>)
     requires many { length sizes.now ≡ length root.now }
-    requires most { raise + sum_of sizes.now ≤ 160 }
-    requires room { length out.old.items + length root.now ≤ 160 }
+    requires most { raise + sum_of sizes.now ≤ MAX_LENGTH }
+    requires room { length out.old.items + length root.now ≤ MAX_LENGTH }
     ensures { out.new.items ≡ out.old.items ++ reverse (raises raise root.now sizes.now root.now) }
 {
     let len = sizes.len();
@@ -50,8 +50,8 @@ fn add_raises(root: &Perm, sizes: &Sizes, raise: usize, out: &mut ArrayVec<usize
 fn step(
     system: &System,
     vertex: &Vertex,
-    raised: &mut ArrayVec<usize, 160>,
-    out: &mut ArrayVec<u8, 160>,
+    raised: &mut ArrayVec<usize, MAX_LENGTH>,
+    out: &mut ArrayVec<u8, MAX_LENGTH>,
 )
     requires formed { IsWellFormed system.now }
     requires writing { (xs : List Vertex) × (word : List ℕ) × Writing system.now (reverse raised.old.items) (vertex.now ∷ xs) out.old.items word }
@@ -66,14 +66,14 @@ fn step(
 }
 
 // The entries of the word of a tree's vertices in preorder.
-pub fn entries(system: &System, vertices: &[Vertex], n: usize) -> ArrayVec<u8, 160>
+pub fn entries(system: &System, vertices: &[Vertex], n: usize) -> ArrayVec<u8, MAX_LENGTH>
     requires formed { IsWellFormed system.now }
-    requires limit { n ≤ 160 }
+    requires limit { n ≤ MAX_LENGTH }
     requires completes { Completes system.now (record { equation = 0; size = n } ∷ []) vertices.now }
     ensures { result.items ≡ word_of system.now vertices.now }
 {
     let mut out = ArrayVec::new();
-    let mut raised: ArrayVec<usize, 160> = ArrayVec::new();
+    let mut raised: ArrayVec<usize, MAX_LENGTH> = ArrayVec::new();
     raised.push(0);
     for vertex in vertices {
         step(system, vertex, &mut raised, &mut out);

@@ -28,9 +28,9 @@ invariant_of-node-clause-known c k lt =
     subst (λ (S : System). get_or c.in-Node.children k 0 < length S.equations) (sym c.requires.stands)
     ((node_form c.args.system.now c.args.equation c.args.term_number c.in-Node.root c.in-Node.children c.requires.formed e).known k lt)
 
-pub invariant_of-node-clause-ten : goal.invariant_of-node-clause-ten
-invariant_of-node-clause-ten c =
-    (node_form c.args.system.now c.args.equation c.args.term_number c.in-Node.root c.in-Node.children c.requires.formed (c.term.ensures ∙ ap Some c.in-Node.is)).ten
+pub invariant_of-node-clause-few : goal.invariant_of-node-clause-few
+invariant_of-node-clause-few c =
+    (node_form c.args.system.now c.args.equation c.args.term_number c.in-Node.root c.in-Node.children c.requires.formed (c.term.ensures ∙ ap Some c.in-Node.is)).few
 
 -- the place lies among the trees of the term, as the table counts them
 within : (S T : System) (u t n F r : ℕ) (root cs : List ℕ) → T ≡ S → term_at S u t ≡ Some (Node root cs) → r < F * term_ways S n (term_at S u t) → r < F * ways (count_at T) cs n

@@ -25,9 +25,9 @@ invariant_of-node-clause-known c k lt =
     subst (λ (S : System). get_or c.in-Node.children k 0 < length S.equations) (sym c.requires.stands)
     ((node_form c.args.system.now c.args.vertex.equation c.args.vertex.term c.in-Node.root c.in-Node.children c.requires.formed e).known k lt)
 
-pub invariant_of-node-clause-ten : goal.invariant_of-node-clause-ten
-invariant_of-node-clause-ten c =
-    (node_form c.args.system.now c.args.vertex.equation c.args.vertex.term c.in-Node.root c.in-Node.children c.requires.formed (c.term.ensures ∙ ap Some c.in-Node.is)).ten
+pub invariant_of-node-clause-few : goal.invariant_of-node-clause-few
+invariant_of-node-clause-few c =
+    (node_form c.args.system.now c.args.vertex.equation c.args.vertex.term c.in-Node.root c.in-Node.children c.requires.formed (c.term.ensures ∙ ap Some c.in-Node.is)).few
 
 pub next_sizes-requires-clause-sum : goal.next_sizes-requires-clause-sum
 next_sizes-requires-clause-sum c =
