@@ -3,13 +3,17 @@
 alone. For each class: the list of each length holds exactly the permutations that avoid the basis, each once; the counts are
 how many they are; `rank` and `unrank` lead from each member to its line and back; `rank` of any other permutation names the
 first word of the basis that it contains, at its first occurrence; `draw` gives the members at the ranks that ChaCha20's block
-function leads to, and `drawstat` what their statistics are. For three classes that the literature knows, the counts to
-length 40 are those of a recurrence. Prints a line for each, and ends with 1 on a difference."""
+function leads to, and `drawstat` what their statistics are. From every tenth rank on, and at and past the last rank, a list of
+a length to 8 holds what unranking each rank gives; so do a few lines of a long length from ranks all over the list. For three
+classes that the literature knows, the counts to length 40 are those of a recurrence. Prints a line for each, and ends with 1
+on a difference."""
 import subprocess
 import sys
 from itertools import combinations, permutations
 
 LONGEST = 7
+LONGEST_LIST = 8
+GREATEST_RANK = 2**128 - 1
 CLASSES = ["132", "231", "2413 3142", "123 132", "2143 2413 3142", "1324 2413 3142", "2143 2413 3142 3412",
            "321 2413 3142", "1243 2413 41352 531642", "12"]
 
@@ -110,6 +114,41 @@ def check_class(program, basis):
     print(f"{basis}: lists, ranks, draws and counts to length {LONGEST} agree")
 
 
+def unranked(program, basis, length, ranks):
+    """The lines of a list of these ranks, each by a query of its own."""
+    lines = []
+    for first in range(0, len(ranks), 1000):
+        batch = ranks[first:first + 1000]
+        found = answers(program, basis, [f"unrank {length} {rank}" for rank in batch])
+        lines += [f"{rank} {line.split(' = ')[1]}" for rank, line in zip(batch, found)]
+    return lines
+
+
+def lists(program, basis, length, starts, many):
+    """The lines of the lists from these ranks on, each list by itself."""
+    for first in range(0, len(starts), 50):
+        batch = starts[first:first + 50]
+        lines = iter(answers(program, basis, [f"list {length} from {start} for {many}" for start in batch]))
+        for start in batch:
+            assert next(lines) == f"list {length} from {start} for {many} =", (basis, length, start)
+            yield start, list(iter(lines.__next__, "end"))
+
+
+def check_lists(program, basis):
+    for length in range(1, LONGEST_LIST + 1):
+        count = int(answers(program, basis, [f"count {length}"])[0].split(" = ")[1])
+        due = unranked(program, basis, length, range(count))
+        starts = [*range(0, count, 10), max(count - 1, 0), count, GREATEST_RANK]
+        for start, lines in lists(program, basis, length, starts, 1000000):
+            assert lines == due[start:], (basis, length, start)
+    length, parts, many = 30, 40, 12
+    count = int(answers(program, basis, [f"count {length}"])[0].split(" = ")[1])
+    starts = sorted({max(0, count * part // parts - many // 2) for part in range(parts + 1)})
+    for start, lines in lists(program, basis, length, starts, many):
+        assert lines == unranked(program, basis, length, range(start, min(start + many, count))), (basis, length, start)
+    print(f"{basis}: lists from every tenth rank to length {LONGEST_LIST} agree")
+
+
 def catalan(n):
     numbers = [1]
     for k in range(n):
@@ -135,4 +174,5 @@ def check_counts(program):
 if __name__ == "__main__":
     for each in CLASSES:
         check_class(sys.argv[1], each)
+        check_lists(sys.argv[1], each)
     check_counts(sys.argv[1])
