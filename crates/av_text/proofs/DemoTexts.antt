@@ -1,5 +1,5 @@
 -- The lines and the tokens of a demo script.
-use Rattle.std.proofs.Common.{◌≡◌, ℕ, zero, suc, ◌-◌, ◌<◌, ◌≤◌, ◌%◌, Bool, true, false, not, ◌||◌, ◌==◌, nat_lt, List, [], ◌∷◌, ◌++◌, map, length, codes, decimal, slice_index, Ok, refl, sym, ap, ◌∙◌, subst, arith, inl, inr, length-append}
+use Rattle.std.proofs.Common.{◌≡◌, ℕ, zero, suc, ◌-◌, ◌<◌, ◌≤◌, ◌%◌, ◌^◌, Bool, true, false, not, ◌||◌, ◌==◌, nat_lt, List, [], ◌∷◌, ◌++◌, map, length, codes, decimal, slice_index, Ok, refl, sym, ap, ◌∙◌, subst, arith, inl, inr, length-append}
 use Rattle.std.specs.List.{list_all, slice_split}
 use Rattle.std.specs.Char.{is_ascii_digit, digit_value}
 use Rattle.std.specs.Str.Parse.{AllDigits}
@@ -10,19 +10,20 @@ use Rattle.std.proofs.lemmas.Str.Parse.{digit_from_value}
 use Rattle.std.proofs.lemmas.Option.{unwrap_or-slice_get}
 use Rattle.av_perm.specs.declared.limits.TheConstants.{MAX_PATTERN_LENGTH}
 use Rattle.av_perm.specs.Members.{In}
+use Rattle.av_perm.specs.declared.StatKind.TheVariants as stat
 use Rattle.av_perm.specs.Word.{words, arrangements}
 use Rattle.av_perm.proofs.Membership.{In_at}
 use Rattle.av_perm.proofs.Tests.{all_from}
 use Rattle.av_perm.proofs.WordLists.{words_arrange}
 use Rattle.av_text.specs.declared.limits.TheConstants.{MAX_DEMO, MAX_SCRIPT_BYTES}
-use Rattle.av_text.specs.declared.queries.Query.{Query}
+use Rattle.av_text.specs.declared.says.Seen.{Seen}
 use Rattle.av_text.specs.declared.queries.Query.TheVariants as query
 use Rattle.av_text.specs.declared.says.Says.TheVariants.{Basis, Asks}
-use Rattle.av_text.specs.Demo.{ten_words, demo_word, digits_text, demo_script, demo_basis, basis_line, counts_line, draws_line, basis_seen, IsDemo}
+use Rattle.av_text.specs.Demo.{ten_words, demo_word, digits_text, demo_script, demo_basis, basis_line, counts_line, draws_line, IsDemo}
 use Rattle.av_text.specs.Lines.{is_filled, is_line_feed, is_blank, is_allowed, script_lines, tokens}
 use Rattle.av_text.specs.Numerals.{is_digits, is_numeral, number_in}
 use Rattle.av_text.specs.Read.{unseen, basis_words, basis_said, tokens_said, line_said, lines_said, read}
-use Rattle.av_text.specs.Queries.{form_named, query_with_one, query_with, query_of}
+use Rattle.av_text.specs.Queries.{form_named, length_in, drawn_in, statistic_named, query_with_one, query_with_four, query_with, query_of}
 use Rattle.av_text.specs.Words.{entries_of, checked_word, word_in}
 use Rattle.av_text.proofs.DemoGaps.{demo_gap}
 use Rattle.av_text.proofs.DemoWords.{words_24}
@@ -135,6 +136,19 @@ read_before (t ∷ ts) (w ∷ ws) us vs e f =
     let i : map (word_in MAX_PATTERN_LENGTH) ts ≡ map (λ w. Ok w) ws = cc in
     one_more t (ts ++ us) w (ws ++ vs) h (read_before ts ws us vs i f)
 
+-- the basis line was seen
+abbrev basis_seen : Seen
+basis_seen = record { basis = true }
+
+-- the other numbers of the last line are read
+forty : length_in (codes "40") ≡ Ok 40
+unfolding number_in is_numeral is_digits
+forty = refl
+
+thousand : drawn_in (codes "1000") ≡ Ok 1000
+unfolding number_in is_numeral is_digits
+thousand = refl
+
 module _ (g : ℕ) (small : g ≤ MAX_DEMO) where
   pub is_listed : In (demo_word g) (words 4)
   is_listed = subst (λ w. In w (words 4)) (sym (unwrap_or-slice_get (words 4) (g % 24) [])) (In_at (words 4) (g % 24) [] (omega (arith, words_24)))
@@ -233,13 +247,16 @@ module _ (g : ℕ) (small : g ≤ MAX_DEMO) where
   unfolding line_said tokens_said tokens query_of form_named query_with query_with_one number_in is_numeral is_digits
   counts_read = refl
 
-  script_read : (draws : Query) → line_said basis_seen (draws_line g) ≡ Ok (Asks draws)
-      → read (demo_script g) ≡ Ok (record { basis = demo_basis g; queries = query.Counts 160 ∷ draws ∷ [] })
+  draws_read : line_said basis_seen (draws_line g) ≡ Ok (Asks (query.DrawStat stat.Inv 40 g 1000))
+  unfolding line_said tokens_said query_of form_named query_with query_with_four statistic_named
+  draws_read = rw (last_allowed, last_words, forty, number_read (2 ^ 64 - 1) (omega (arith, small)), thousand) refl
+
+  script_read : read (demo_script g) ≡ Ok (record { basis = demo_basis g; queries = query.Counts 160 ∷ query.DrawStat stat.Inv 40 g 1000 ∷ [] })
   unfolding read lines_said
-  script_read draws d = rw (few (length (demo_script g)) few_bytes, lines_are, basis_is, counts_read, d) refl
+  script_read = rw (few (length (demo_script g)) few_bytes, lines_are, basis_is, counts_read, draws_read) refl
     where
       few : (n : ℕ) → n ≤ MAX_SCRIPT_BYTES → nat_lt MAX_SCRIPT_BYTES n ≡ false
       few n h = grind arith
 
   pub demo_holds : IsDemo g
-  demo_holds = record { short = few_bytes; lines = lines_are; basis = basis_is; counts = counts_read; allowed = last_allowed; words = last_words; number = number_read; reads = script_read; settled = demo_gap g }
+  demo_holds = record { short = few_bytes; lines = lines_are; reads = script_read; settled = demo_gap g }

@@ -1,16 +1,12 @@
 -- The demo scripts, one for each number.
-use Rattle.std.specs.Prelude.{◌≡◌, ℕ, ◌+◌, ◌≤◌, ◌%◌, true, List, [], ◌∷◌, ◌++◌, map, length, codes, decimal, slice_get, unwrap_or, Ok}
-use Rattle.std.specs.List.{list_all}
+use Rattle.std.specs.Prelude.{◌≡◌, ℕ, ◌+◌, ◌≤◌, ◌%◌, List, [], ◌∷◌, ◌++◌, map, length, codes, decimal, slice_get, unwrap_or, Ok}
 use Rattle.av_perm.specs.Laws.{IsLeastGap}
 use Rattle.av_perm.specs.Word.{words}
+use Rattle.av_perm.specs.declared.StatKind.TheVariants as stat
 use Rattle.av_text.specs.declared.limits.TheConstants.{MAX_DEMO, MAX_SCRIPT_BYTES}
-use Rattle.av_text.specs.declared.queries.Query.{Query}
 use Rattle.av_text.specs.declared.queries.Query.TheVariants as query
-use Rattle.av_text.specs.declared.says.Seen.{Seen}
-use Rattle.av_text.specs.declared.says.Says.TheVariants.{Basis, Asks}
-use Rattle.av_text.specs.Lines.{script_lines, is_allowed, tokens}
-use Rattle.av_text.specs.Numerals.{number_in}
-use Rattle.av_text.specs.Read.{unseen, line_said, read}
+use Rattle.av_text.specs.Lines.{script_lines}
+use Rattle.av_text.specs.Read.{read}
 
 -- the basis words that every demo script has: the six simple words of length 5, and the four simple words of length 6 that
 -- contain none of them
@@ -56,26 +52,16 @@ counts_line = codes "counts 160"
 abbrev pub draws_line : ℕ → List ℕ
 draws_line g = codes "drawstat inv 40 " ++ (decimal g ++ codes " 1000")
 
--- the basis line was seen
-abbrev pub basis_seen : Seen
-basis_seen = record { basis = true }
-
 -- the class is settled at the limit, with a gap of at most 5
 abbrev pub HasGap : List (List ℕ) → ℕ → Type 0
 HasGap basis limit = (k : ℕ) × (k ≤ 5) × IsLeastGap basis limit k
 
--- the demo script of a number is a script with that basis and the counts up to length 160, once its last line asks a query
+-- the demo script of a number is a script with that basis, the counts up to length 160, and the statistic of the inversions
+-- of 1,000 members of length 40 that are drawn by that number
 pub record IsDemo (g : ℕ) : Type 0 where
   pub short : length (demo_script g) ≤ MAX_SCRIPT_BYTES
   pub lines : script_lines (demo_script g) ≡ basis_line g ∷ counts_line ∷ draws_line g ∷ []
-  pub basis : line_said unseen (basis_line g) ≡ Ok (Basis (demo_basis g))
-  pub counts : line_said basis_seen counts_line ≡ Ok (Asks (query.Counts 160))
-  -- the last line's bytes are allowed, these are its tokens, and the number is read as itself
-  pub allowed : list_all is_allowed (draws_line g) ≡ true
-  pub words : tokens (draws_line g) ≡ codes "drawstat" ∷ codes "inv" ∷ codes "40" ∷ decimal g ∷ codes "1000" ∷ []
-  pub number : (high : ℕ) → g ≤ high → number_in 0 high (decimal g) ≡ Ok g
-  pub reads : (draws : Query) → line_said basis_seen (draws_line g) ≡ Ok (Asks draws)
-      → read (demo_script g) ≡ Ok (record { basis = demo_basis g; queries = query.Counts 160 ∷ draws ∷ [] })
+  pub reads : read (demo_script g) ≡ Ok (record { basis = demo_basis g; queries = query.Counts 160 ∷ query.DrawStat stat.Inv 40 g 1000 ∷ [] })
   -- from 6 on each limit of lengths settles its class
   pub settled : (limit : ℕ) → 6 ≤ limit → HasGap (demo_basis g) limit
 
