@@ -4,14 +4,15 @@ use crate::tests::run_script;
 use std::alloc::{AllocError, Global};
 use std::test::Fail;
 
-const LARGEST: u128 = 40;
+const LARGEST: u64 = 40;
 
 // The Catalan numbers: the next is that of n times 4n + 2, by n + 2.
 fn catalan_numbers(alloc: Global) -> Result<Vec<u128>, AllocError> {
     let mut numbers = Vec::new(alloc);
     let mut number: u128 = 1;
-    for n in 1..LARGEST + 1 {
+    for length in 1..LARGEST + 1 {
         numbers.push(number)?;
+        let n = u128::from(length);
         number = number.saturating_mul(4 * n + 2) / (n + 2);
     }
     Ok(numbers)
@@ -23,8 +24,9 @@ fn large_schroeder_numbers(alloc: Global) -> Result<Vec<u128>, AllocError> {
     numbers.push(1)?;
     let mut before: u128 = 1;
     let mut number: u128 = 2;
-    for n in 2..LARGEST + 1 {
+    for length in 2..LARGEST + 1 {
         numbers.push(number)?;
+        let n = u128::from(length);
         let larger = number.saturating_mul(6 * n - 3);
         let next = larger.saturating_sub(before.saturating_mul(n - 2)) / (n + 1);
         before = number;
@@ -36,8 +38,10 @@ fn large_schroeder_numbers(alloc: Global) -> Result<Vec<u128>, AllocError> {
 // The powers of 2.
 fn powers_of_two(alloc: Global) -> Result<Vec<u128>, AllocError> {
     let mut numbers = Vec::new(alloc);
-    for n in 0..LARGEST {
-        numbers.push(1 << n)?;
+    let mut number: u128 = 1;
+    for _length in 0..LARGEST {
+        numbers.push(number)?;
+        number = number.saturating_mul(2);
     }
     Ok(numbers)
 }
