@@ -84,27 +84,6 @@ fn the_next_word_comes_across_children_sizes_and_terms(rt: HostRuntime) -> Resul
 }
 
 #[test]
-fn a_list_ends_at_the_last_tree_and_at_the_greatest_rank(rt: HostRuntime) -> Result<(), Memory> {
-    let system = binary(rt.alloc())?;
-    if system.check() {
-        let table = Table::new(rt.alloc(), &system, 60)?;
-        assert_eq!(rt; first_items(rt.alloc(), &system, &table, 3, 7, 9)?.len(), 1);
-        assert_eq!(rt; first_items(rt.alloc(), &system, &table, 3, 8, 9)?.len(), 0);
-        assert_eq!(rt;
-            first_items(rt.alloc(), &system, &table, 3, u128::MAX, 9)?.len(),
-            0
-        );
-        assert_eq!(rt;
-            first_items(rt.alloc(), &system, &table, 60, u128::MAX, 9)?.len(),
-            1
-        );
-    } else {
-        assert!(rt; false);
-    }
-    Ok(())
-}
-
-#[test]
 fn a_sieve_gives_what_is_kept_with_its_ranks(rt: HostRuntime) -> Result<(), Memory> {
     let system = binary(rt.alloc())?;
     if system.check() {
