@@ -10,7 +10,7 @@ use Rattle.av_perm.specs.Word.{entry}
 use Rattle.av_perm.proofs.Membership.{In_counting, counting_In}
 use Rattle.av_perm.proofs.Occurrences.{entry_at}
 use Rattle.av_perm.proofs.Tests.{all_to, all_from}
-use Rattle.av_perm.specs.declared.limits.TheConstants.{MAX_LENGTH}
+use Rattle.av_perm.specs.declared.limits.TheConstants.{MAX_LENGTH, MAX_STATISTIC}
 
 -- the pairs of n places
 pairs : ℕ → ℕ
@@ -23,17 +23,17 @@ pairs_grow zero n h = omega arith
 pairs_grow (suc m) zero h = absurd (omega arith)
 pairs_grow (suc m) (suc n) h = let k : m ≤ n = omega arith in omega (arith, pairs_grow m n k)
 
-pairs_160 : pairs 160 ≡ 12720
+pairs_of_longest : pairs MAX_LENGTH ≡ MAX_STATISTIC
 unfolding pairs
-pairs_160 = refl
+pairs_of_longest = refl
 
 inversions_below : (w : List ℕ) → inversions w ≤ pairs (length w)
 unfolding pairs
 inversions_below [] = omega arith
 inversions_below (x ∷ xs) = omega (arith, count_by-le-length (λ y. nat_lt y x) xs, inversions_below xs)
 
-pub inversions_few : (w : List ℕ) → length w ≤ MAX_LENGTH → inversions w ≤ 12720
-inversions_few w h = omega (arith, inversions_below w, pairs_grow (length w) MAX_LENGTH h, pairs_160)
+pub inversions_few : (w : List ℕ) → length w ≤ MAX_LENGTH → inversions w ≤ MAX_STATISTIC
+inversions_few w h = omega (arith, inversions_below w, pairs_grow (length w) MAX_LENGTH h, pairs_of_longest)
 
 -- inversions whose first place is the first of those that are left
 pub inversions_turn : (w : List ℕ) (i : ℕ) → i < length w → inversions (drop i w) ≡ count_by (λ y. nat_lt y (get_or w i 0)) (drop (i + 1) w) + inversions (drop (i + 1) w)

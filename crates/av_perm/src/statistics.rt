@@ -4,7 +4,7 @@ ghost use Rattle.av_perm.specs.Word.{is_perm};
 ghost use Rattle.av_perm.specs.Stat.{statistic_of, inversions, descents, left_to_right_maxima};
 
 use crate::StatKind;
-use crate::limits::MAX_LENGTH;
+use crate::limits::{MAX_LENGTH, MAX_STATISTIC};
 use crate::perm::Perm;
 
 /// How many of the entries are below one.
@@ -19,7 +19,7 @@ fn count_below(entry: u8, entries: &[u8]) -> u64
 fn count_inversions(entries: &[u8]) -> u64
     requires { length entries.now ≤ MAX_LENGTH }
     ensures value { result ≡ inversions entries.now }
-    ensures few { result ≤ 12720 }
+    ensures few { result ≤ MAX_STATISTIC }
 {
     let mut count = 0u64;
     for i in 0..entries.len() {
@@ -32,7 +32,7 @@ fn count_inversions(entries: &[u8]) -> u64
 fn count_descents(entries: &[u8]) -> u64
     requires { length entries.now ≤ MAX_LENGTH }
     ensures value { result ≡ descents entries.now }
-    ensures few { result ≤ 12720 }
+    ensures few { result ≤ MAX_STATISTIC }
 {
     let mut count = 0u64;
     for i in 1..entries.len() {
@@ -47,7 +47,7 @@ fn count_descents(entries: &[u8]) -> u64
 fn count_left_to_right_maxima(entries: &[u8]) -> u64
     requires { IsTrue (is_perm entries.now) }
     ensures value { result ≡ left_to_right_maxima entries.now }
-    ensures few { result ≤ 12720 }
+    ensures few { result ≤ MAX_STATISTIC }
 {
     let mut count = 0u64;
     let mut greatest = 0u8;
@@ -60,10 +60,10 @@ fn count_left_to_right_maxima(entries: &[u8]) -> u64
     count
 }
 
-/// The statistic of a word, which is at most 12,720: the number of inversions of a word of `MAX_LENGTH` entries.
+/// The statistic of a word, which is at most `MAX_STATISTIC`.
 pub fn statistic(kind: StatKind, word: &Perm) -> u64
     ensures value { result ≡ statistic_of kind word.now }
-    ensures few { result ≤ 12720 }
+    ensures few { result ≤ MAX_STATISTIC }
 {
     let _len = word.len();
     match kind {

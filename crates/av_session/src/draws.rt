@@ -1,5 +1,6 @@
 // Members drawn by a seed.
 ghost use Rattle.std.specs.Prelude.{◌≡◌, ◌+◌, ◌<◌, ◌≤◌, ◌^◌, [], length, get_or, min, max};
+ghost use Rattle.av_perm.specs.declared.limits.TheConstants.{MAX_STATISTIC};
 ghost use Rattle.av_perm.specs.Stat.{statistic_of};
 ghost use Rattle.av_sys.specs.TreeLists.{members};
 ghost use Rattle.av_text.specs.declared.limits.TheConstants.{MAX_DRAWN};
@@ -9,7 +10,7 @@ ghost use Rattle.av_session.specs.Shown.{summary_shown};
 use av_count::Table;
 use av_draw::Drawer;
 use av_io::{Sink, SinkFault};
-use av_perm::{Perm, StatKind, statistic};
+use av_perm::{MAX_STATISTIC, Perm, StatKind, statistic};
 use av_print::{Bytes, Number, RankedWord, Text};
 use av_sys::System;
 use av_tree::unrank;
@@ -63,7 +64,7 @@ impl Urn<'_> {
     fn value(&self, kind: StatKind, drawer: &mut Drawer) -> u64
         requires { drawer.old.made < 2 ^ 32 }
         ensures value { result ≡ statistic_of kind (draw (members self.now.system.now self.now.n) drawer.old.seed drawer.old.made).1 }
-        ensures few { result ≤ 12720 }
+        ensures few { result ≤ MAX_STATISTIC }
         ensures moved { drawer.new ≡ record drawer.old { made = drawer.old.made + 1 } }
     {
         let drawn = self.draw(drawer);

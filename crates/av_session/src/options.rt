@@ -10,13 +10,14 @@ ghost use Rattle.av_session.specs.Command.{value_in, chosen_by, texts_found, is_
 use crate::command::matches;
 use av_build::MAX_SIZE;
 use av_perm::MAX_ROOT_LENGTH;
+use av_simple::LEAST_LIMIT;
 use av_text::{MAX_DEMO, number_in};
 use clap::error::ErrorKind;
 use clap::{ArgMatches, Error};
 use std::alloc::Global;
 
 /// The least limit of the lengths at which simple words are searched.
-pub const LEAST_MAX_SIMPLE: usize = 5;
+pub const LEAST_MAX_SIMPLE: usize = LEAST_LIMIT;
 
 /// The greatest limit of these lengths.
 pub const GREATEST_MAX_SIMPLE: usize = MAX_ROOT_LENGTH;

@@ -3,6 +3,7 @@ use Rattle.std.specs.Prelude.{◌≡◌, ℕ, suc, ◌-◌, ◌≤◌, List, [],
 use Rattle.av_perm.specs.declared.limits.TheConstants.{MAX_ROOT_LENGTH}
 use Rattle.av_perm.specs.Lists.{counting}
 use Rattle.av_perm.specs.Gap.{simples, gap, simples_below}
+use Rattle.av_simple.specs.declared.limits.TheConstants.{LEAST_LIMIT}
 use Rattle.av_simple.specs.declared.outcome.Outcome.{Outcome}
 use Rattle.av_simple.specs.declared.outcome.Outcome.TheVariants as outcome
 
@@ -52,7 +53,7 @@ roots_of s = roots_by s.basis (gap_of s)
 
 -- what was kept is what is to be found
 pub record IsFound (s : Searched) (levels : List (List (List ℕ))) (found : Outcome) : Type 0 where
-  pub low : 5 ≤ s.limit
+  pub low : LEAST_LIMIT ≤ s.limit
   pub high : s.limit ≤ MAX_ROOT_LENGTH
   pub found_is : found ≡ outcome_of s
   pub levels_are : levels ≡ levels_to s.basis (last_of s)

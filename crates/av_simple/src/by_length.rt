@@ -6,14 +6,15 @@ ghost use Rattle.av_simple.specs.Searched.{Searched, EndsEmpty, levels_to};
 use crate::extension::extend_level;
 use crate::found::Found;
 use crate::level::level;
+use crate::limits::LEAST_LIMIT;
 use crate::outcome::Outcome;
 use av_perm::{MAX_ROOT_LENGTH, Memory, Words};
 use std::alloc::Global;
 
 /// Searches the simple words of a class from length 4 on, until two lengths in turn have none or the limit is reached,
-/// which is from 5 to `MAX_ROOT_LENGTH`.
+/// which is from `LEAST_LIMIT` to `MAX_ROOT_LENGTH`.
 pub fn search(alloc: Global, basis: &Words, limit: usize) -> Result<Found, Memory>
-    requires low { 5 ≤ limit }
+    requires low { LEAST_LIMIT ≤ limit }
     requires high { limit ≤ MAX_ROOT_LENGTH }
     ensures { IfOk result (λ found. found ≡ record { basis = basis.now; limit = limit }) }
 {

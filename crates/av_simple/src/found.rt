@@ -3,6 +3,7 @@ ghost use Rattle.std.specs.Prelude.{◌≡◌, ◌≢◌, ◌≤◌, IfOk, ℕ, 
 ghost use Rattle.av_perm.specs.Gap.{simples};
 ghost use Rattle.av_simple.specs.Searched.{Searched, IsFound, gap_of, outcome_of, last_of, roots_of};
 
+use crate::limits::LEAST_LIMIT;
 use crate::outcome::Outcome;
 use av_perm::{MAX_ROOT_LENGTH, Memory, Words};
 use std::alloc::Global;
@@ -56,17 +57,17 @@ impl Found {
         &self.basis
     }
 
-    /// The limit, from 5 to `MAX_ROOT_LENGTH`.
+    /// The limit, from `LEAST_LIMIT` to `MAX_ROOT_LENGTH`.
     pub fn limit(&self) -> usize
         ensures { result ≡ self.now.limit }
     {
         self.limit
     }
 
-    /// The greatest length searched, from 5 to `MAX_ROOT_LENGTH`: one above the gap, or the limit where there is none.
+    /// The greatest length searched, from `LEAST_LIMIT` to `MAX_ROOT_LENGTH`: one above the gap, or the limit where there is none.
     pub fn last(&self) -> usize
         ensures value { result ≡ last_of self.now }
-        ensures low { 5 ≤ result }
+        ensures low { LEAST_LIMIT ≤ result }
         ensures high { result ≤ MAX_ROOT_LENGTH }
     {
         match self.outcome {

@@ -5,6 +5,7 @@ mod by_length;
 mod extension;
 mod found;
 mod level;
+mod limits;
 mod outcome;
 #[cfg(test)]
 mod tests;
@@ -12,4 +13,5 @@ mod tests;
 pub use by_length::search;
 pub use extension::extend_level;
 pub use found::Found;
+pub use limits::LEAST_LIMIT;
 pub use outcome::Outcome;
