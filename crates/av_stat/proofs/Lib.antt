@@ -1,0 +1,3 @@
+pub mod BarLists
+pub mod Counted
+pub mod Histograms

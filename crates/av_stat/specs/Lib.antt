@@ -1,0 +1,3 @@
+-- The definitions of histograms.
+pub mod Histograms
+pub mod Laws

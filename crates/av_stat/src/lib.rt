@@ -1,0 +1,17 @@
+//! Statistics of words, and how many words of a list have each value.
+//!
+//! A `Stat` is a closure with the name of its statistic. A histogram has a bar for each value that some word has, in
+//! increasing order, and the number of the words that have it.
+#![tactic(auto)]
+
+mod bars;
+mod by_value;
+mod counts;
+pub mod laws;
+mod stat;
+#[cfg(test)]
+mod tests;
+
+pub use bars::{Bar, Bars};
+pub use by_value::histogram;
+pub use stat::Stat;
