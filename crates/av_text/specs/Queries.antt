@@ -2,12 +2,12 @@
 use Rattle.std.specs.Prelude.{ℕ, ◌-◌, ◌^◌, ◌<◌, ◌≤◌, Bool, ◌&&◌, if◌then◌else◌, List, [], ◌∷◌, Option, find, Result, Ok, Err, ok_or, codes, IsTrue}
 use Rattle.av_perm.specs.declared.StatKind.{StatKind}
 use Rattle.av_perm.specs.declared.StatKind.TheVariants as stat
-use Rattle.av_perm.specs.declared.limits.TheConstants.{MAX_LENGTH}
+use Rattle.av_perm.specs.declared.limits.TheConstants.{MAX_LENGTH, MAX_STATISTIC}
 use Rattle.av_perm.specs.Lists.{same}
 use Rattle.av_perm.specs.Word.{is_perm}
 use Rattle.av_text.specs.declared.kind.Kind.{Kind}
 use Rattle.av_text.specs.declared.kind.Kind.TheVariants.{UnknownQuery}
-use Rattle.av_text.specs.declared.limits.TheConstants.{MAX_LISTED, DEFAULT_LISTED, MAX_DRAWN}
+use Rattle.av_text.specs.declared.limits.TheConstants.{MAX_LISTED, DEFAULT_LISTED, MAX_DRAWN, MAX_STATISTIC_LENGTH}
 use Rattle.av_text.specs.declared.queries.Form.{Form}
 use Rattle.av_text.specs.declared.queries.Form.TheVariants as form
 use Rattle.av_text.specs.declared.queries.Query.{Query}
@@ -26,10 +26,12 @@ form_name form.Rank = codes "rank"
 form_name form.Tree = codes "tree"
 form_name form.Draw = codes "draw"
 form_name form.DrawStat = codes "drawstat"
+form_name form.Stat = codes "stat"
+form_name form.Pick = codes "pick"
 
 -- all forms
 abbrev pub forms : List Form
-forms = form.Count ∷ form.Counts ∷ form.List ∷ form.Unrank ∷ form.Rank ∷ form.Tree ∷ form.Draw ∷ form.DrawStat ∷ []
+forms = form.Count ∷ form.Counts ∷ form.List ∷ form.Unrank ∷ form.Rank ∷ form.Tree ∷ form.Draw ∷ form.DrawStat ∷ form.Stat ∷ form.Pick ∷ []
 
 -- the form that a token names
 unfoldable pub form_named : List ℕ → Option Form
@@ -70,6 +72,20 @@ IsDrawn k = (1 ≤ k) × (k ≤ MAX_DRAWN)
 
 abbrev pub drawn_in : List ℕ → Result ℕ Kind
 drawn_in t = number_in 1 MAX_DRAWN t
+
+-- a length of words of which each is asked for a statistic
+abbrev pub IsStatisticLength : ℕ → Type 0
+IsStatisticLength n = (1 ≤ n) × (n ≤ MAX_STATISTIC_LENGTH)
+
+abbrev pub statistic_length_in : List ℕ → Result ℕ Kind
+statistic_length_in t = number_in 1 MAX_STATISTIC_LENGTH t
+
+-- a value of a statistic
+abbrev pub IsStatisticValue : ℕ → Type 0
+IsStatisticValue v = v ≤ MAX_STATISTIC
+
+abbrev pub statistic_value_in : List ℕ → Result ℕ Kind
+statistic_value_in t = number_in 0 MAX_STATISTIC t
 
 -- the token that names a statistic
 abbrev pub statistic_name : StatKind → List ℕ
@@ -121,6 +137,10 @@ query_with_two form.Unrank a b = do
   n ← length_in a
   r ← rank_in b
   Ok (query.Unrank n r)
+query_with_two form.Stat a b = do
+  t ← statistic_in a
+  n ← statistic_length_in b
+  Ok (query.Stat t n)
 query_with_two _ a b = Err UnknownQuery
 
 -- with three
@@ -139,6 +159,11 @@ query_with_three form.Draw a b c = do
   s ← seed_in b
   k ← drawn_in c
   Ok (query.Draw n s k)
+query_with_three form.Pick a b c = do
+  t ← statistic_in a
+  v ← statistic_value_in b
+  n ← statistic_length_in c
+  Ok (query.Pick t v n)
 query_with_three _ a b c = Err UnknownQuery
 
 -- with four
@@ -187,3 +212,5 @@ IsInRange (query.Rank w) = IsTrue (is_perm w)
 IsInRange (query.Tree w) = IsTrue (is_perm w)
 IsInRange (query.Draw n s k) = IsLength n × IsSeed s × IsDrawn k
 IsInRange (query.DrawStat t n s k) = IsLength n × IsSeed s × IsDrawn k
+IsInRange (query.Stat t n) = IsStatisticLength n
+IsInRange (query.Pick t v n) = IsStatisticValue v × IsStatisticLength n

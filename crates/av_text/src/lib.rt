@@ -48,6 +48,7 @@ pub use demo::demo_script;
 pub use kind::Kind;
 pub use limits::{
     DEFAULT_LISTED, MAX_BASIS_WORDS, MAX_DEMO, MAX_DRAWN, MAX_LISTED, MAX_SCRIPT_BYTES,
+    MAX_STATISTIC_LENGTH,
 };
 pub use numerals::number_in;
 pub use queries::{Form, Query};

@@ -1,4 +1,4 @@
-// The limits of a script. Those of the lengths of words are `av_perm`'s.
+// The limits of a script. Those of the lengths of words and of statistics are `av_perm`'s.
 
 /// The most bytes of a script.
 pub const MAX_SCRIPT_BYTES: usize = 65_536;
@@ -17,3 +17,6 @@ pub const MAX_DRAWN: u32 = 100_000;
 
 /// The greatest number of a demo script.
 pub const MAX_DEMO: u32 = 99_999;
+
+/// The greatest length at which a query asks for a statistic of each word of the class.
+pub const MAX_STATISTIC_LENGTH: usize = 12;

@@ -1,14 +1,14 @@
 // Queries.
 ghost use Rattle.std.specs.Prelude.{◌≡◌, ◌≤◌, map, IfOk};
 ghost use Rattle.av_perm.specs.Lists.{same};
-ghost use Rattle.av_text.specs.Queries.{form_name, form_named, IsLength, IsRank, IsListed, IsSeed, IsDrawn, length_in, rank_in, listed_in, seed_in, drawn_in, is_from, is_for, query_with_one, query_with_two, query_with_three, query_with_four, query_with_five, query_with, query_of, IsInRange};
+ghost use Rattle.av_text.specs.Queries.{form_name, form_named, IsLength, IsRank, IsListed, IsSeed, IsDrawn, IsStatisticLength, IsStatisticValue, length_in, rank_in, listed_in, seed_in, drawn_in, statistic_length_in, statistic_value_in, is_from, is_for, query_with_one, query_with_two, query_with_three, query_with_four, query_with_five, query_with, query_of, IsInRange};
 
 use crate::Kind;
-use crate::limits::{DEFAULT_LISTED, MAX_DRAWN, MAX_LISTED};
+use crate::limits::{DEFAULT_LISTED, MAX_DRAWN, MAX_LISTED, MAX_STATISTIC_LENGTH};
 use crate::numerals::number_in;
 use crate::statistics::statistic_in;
 use crate::words::word_in;
-use av_perm::{MAX_LENGTH, Perm, StatKind};
+use av_perm::{MAX_LENGTH, MAX_STATISTIC, Perm, StatKind};
 
 /// The forms of a query, each named by its first token.
 #[derive(Clone, Copy, Debug, PartialEq, Eq)]
@@ -30,6 +30,10 @@ pub enum Form {
     Draw,
     /// `drawstat T N S K`, with T one of `inv`, `des` and `lrm`, and N, S and K as in `draw`.
     DrawStat,
+    /// `stat T N`, with T as in `drawstat` and N from 1 to 12.
+    Stat,
+    /// `pick T V N`, with T and N as in `stat` and V from 0 to 12,720.
+    Pick,
 }
 
 /// A question about the class of the words that avoid the basis.
@@ -91,9 +95,25 @@ pub enum Query {
         /// How many are drawn, from 1 to 100,000.
         many: u32,
     },
+    /// For each value of a statistic, how many words of length `n` of the class have it.
+    Stat {
+        /// The statistic.
+        kind: StatKind,
+        /// The length, from 1 to 12.
+        n: u8,
+    },
+    /// The words of length `n` of the class whose statistic has a value, in order of rank.
+    Pick {
+        /// The statistic.
+        kind: StatKind,
+        /// The value, from 0 to 12,720.
+        value: u64,
+        /// The length, from 1 to 12.
+        n: u8,
+    },
 }
 
-const FORMS: [Form; 8] = [
+const FORMS: [Form; 10] = [
     Form::Count,
     Form::Counts,
     Form::List,
@@ -102,6 +122,8 @@ const FORMS: [Form; 8] = [
     Form::Tree,
     Form::Draw,
     Form::DrawStat,
+    Form::Stat,
+    Form::Pick,
 ];
 
 impl Form {
@@ -118,6 +140,8 @@ impl Form {
             Form::Tree => b"tree",
             Form::Draw => b"draw",
             Form::DrawStat => b"drawstat",
+            Form::Stat => b"stat",
+            Form::Pick => b"pick",
         }
     }
 
@@ -169,6 +193,22 @@ fn drawn_in(token: &[u8]) -> Result<u32, Kind>
     Ok(number_in(token, 1, MAX_DRAWN as u128)? as u32)
 }
 
+/// A length of words of which each is asked for a statistic.
+fn statistic_length_in(token: &[u8]) -> Result<u8, Kind>
+    ensures value { result ≡ statistic_length_in token.now }
+    ensures range { IfOk result IsStatisticLength }
+{
+    Ok(number_in(token, 1, MAX_STATISTIC_LENGTH as u128)? as u8)
+}
+
+/// A value of a statistic.
+fn statistic_value_in(token: &[u8]) -> Result<u64, Kind>
+    ensures value { result ≡ statistic_value_in token.now }
+    ensures range { IfOk result IsStatisticValue }
+{
+    Ok(number_in(token, 0, MAX_STATISTIC as u128)? as u64)
+}
+
 /// Whether a rank stands after the token.
 fn is_from(token: &[u8]) -> bool
     ensures { result ≡ is_from token.now }
@@ -218,6 +258,10 @@ fn query_with_two(form: Form, a: &[u8], b: &[u8]) -> Result<Query, Kind>
             n: length_in(a)?,
             r: rank_in(b)?,
         }),
+        Form::Stat => Ok(Query::Stat {
+            kind: statistic_in(a)?,
+            n: statistic_length_in(b)?,
+        }),
         _ => Err(Kind::UnknownQuery),
     }
 }
@@ -243,6 +287,11 @@ fn query_with_three(form: Form, a: &[u8], b: &[u8], c: &[u8]) -> Result<Query, K
             n: length_in(a)?,
             seed: seed_in(b)?,
             many: drawn_in(c)?,
+        }),
+        Form::Pick => Ok(Query::Pick {
+            kind: statistic_in(a)?,
+            value: statistic_value_in(b)?,
+            n: statistic_length_in(c)?,
         }),
         _ => Err(Kind::UnknownQuery),
     }

@@ -2,7 +2,7 @@ use super::*;
 use av_perm::Memory;
 
 /// Texts that are refused, each with the line and the kind of its fault.
-static REFUSED: [(&str, u32, Kind); 88] = [
+static REFUSED: [(&str, u32, Kind); 97] = [
     // No basis line.
     ("", 0, Kind::NoBasis),
     ("\n", 0, Kind::NoBasis),
@@ -79,7 +79,9 @@ static REFUSED: [(&str, u32, Kind); 88] = [
     ("basis 132\nunrank 3", 2, Kind::UnknownQuery),
     ("basis 132\ndraw 3 1", 2, Kind::UnknownQuery),
     ("basis 132\ndrawstat maj 0 x 1", 2, Kind::UnknownQuery),
-    ("basis 132\ndraw 3 18446744073709551616 0", 2, Kind::Range),
+    ("basis 132\nstat foo 3", 2, Kind::UnknownQuery),
+    ("basis 132\nstat inv 3 4", 2, Kind::UnknownQuery),
+    ("basis 132\npick inv 3", 2, Kind::UnknownQuery),
     // Arguments that are no number.
     ("basis 132\ncount x", 2, Kind::BadNumber),
     ("basis 132\ncount 07", 2, Kind::BadNumber),
@@ -90,6 +92,8 @@ static REFUSED: [(&str, u32, Kind); 88] = [
     ("basis 132\ncounts 2,1", 2, Kind::BadNumber),
     ("basis 132\nunrank 3 x", 2, Kind::BadNumber),
     ("basis 132\nlist 3 from 01 for 0", 2, Kind::BadNumber),
+    ("basis 132\nstat inv x", 2, Kind::BadNumber),
+    ("basis 132\npick inv x 13", 2, Kind::BadNumber),
     // Numbers out of range.
     ("basis 132\ncount 0", 2, Kind::Range),
     ("basis 132\ncount 161", 2, Kind::Range),
@@ -97,6 +101,11 @@ static REFUSED: [(&str, u32, Kind); 88] = [
     ("basis 132\ncounts 161", 2, Kind::Range),
     ("basis 132\nlist 3 for 0", 2, Kind::Range),
     ("basis 132\nlist 3 for 1000001", 2, Kind::Range),
+    ("basis 132\ndraw 3 18446744073709551616 0", 2, Kind::Range),
+    ("basis 132\nstat inv 0", 2, Kind::Range),
+    ("basis 132\nstat inv 13", 2, Kind::Range),
+    ("basis 132\npick inv 12721 3", 2, Kind::Range),
+    ("basis 132\npick lrm 12720 13", 2, Kind::Range),
     (
         "basis 132\nlist 3 from 340282366920938463463374607431768211456",
         2,
