@@ -2,8 +2,8 @@
 use Rattle.std.proofs.Common.{◌≡◌, ◌-◌, ◌^◌, refl, arith, Ok}
 use Rattle.av_perm.specs.declared.StatKind.{StatKind}
 use Rattle.av_perm.specs.declared.StatKind.TheVariants as stat
-use Rattle.av_perm.specs.declared.limits.TheConstants.{MAX_LENGTH}
-use Rattle.av_text.specs.declared.limits.TheConstants.{MAX_LISTED, MAX_DRAWN}
+use Rattle.av_perm.specs.declared.limits.TheConstants.{MAX_LENGTH, MAX_STATISTIC}
+use Rattle.av_text.specs.declared.limits.TheConstants.{MAX_LISTED, MAX_DRAWN, MAX_STATISTIC_LENGTH}
 use Rattle.av_text.specs.declared.queries.Query.{Query}
 use Rattle.av_text.specs.declared.queries.Query.TheVariants as query
 use Rattle.av_text.specs.declared.says.Says.TheVariants.{Asks}
@@ -41,6 +41,9 @@ tokens_are (query.Draw n s k) r =
     (record { filled = refl; plain = refl }, (number_token n (omega arith), (number_token s (omega arith), (number_token k (omega arith), tt))))
 tokens_are (query.DrawStat t n s k) r =
     (record { filled = refl; plain = refl }, (statistic_token t, (number_token n (omega arith), (number_token s (omega arith), (number_token k (omega arith), tt)))))
+tokens_are (query.Stat t n) r = (record { filled = refl; plain = refl }, (statistic_token t, (number_token n (omega arith), tt)))
+tokens_are (query.Pick t v n) r =
+    (record { filled = refl; plain = refl }, (statistic_token t, (number_token v (omega arith), (number_token n (omega arith), tt))))
 
 -- and read as those of a line they ask it
 tokens_ask : (seen : Seen) (q : Query) → IsInRange q → tokens_said seen (query_tokens q) ≡ Ok (Asks q)
@@ -57,6 +60,9 @@ tokens_ask seen (query.Draw n s k) r =
     rw (number_said 1 MAX_LENGTH n r.0.0 r.0.1 (omega arith), number_said 0 (2 ^ 64 - 1) s (omega arith) (omega arith) (omega arith), number_said 1 MAX_DRAWN k r.2.0 r.2.1 (omega arith)) refl
 tokens_ask seen (query.DrawStat t n s k) r =
     rw (statistic_said t, number_said 1 MAX_LENGTH n r.0.0 r.0.1 (omega arith), number_said 0 (2 ^ 64 - 1) s (omega arith) (omega arith) (omega arith), number_said 1 MAX_DRAWN k r.2.0 r.2.1 (omega arith)) refl
+tokens_ask seen (query.Stat t n) r = rw (statistic_said t, number_said 1 MAX_STATISTIC_LENGTH n r.0 r.1 (omega arith)) refl
+tokens_ask seen (query.Pick t v n) r =
+    rw (statistic_said t, number_said 0 MAX_STATISTIC v (omega arith) r.0 (omega arith), number_said 1 MAX_STATISTIC_LENGTH n r.1.0 r.1.1 (omega arith)) refl
 
 -- its canonical text, as a line, asks it
 pub query_text_read : (seen : Seen) (q : Query) → IsInRange q → line_said seen (query_text q) ≡ Ok (Asks q)

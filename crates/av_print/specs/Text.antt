@@ -52,6 +52,8 @@ query_tokens (query.Rank w) = form_name form.Rank ∷ word_text w ∷ []
 query_tokens (query.Tree w) = form_name form.Tree ∷ word_text w ∷ []
 query_tokens (query.Draw n s k) = form_name form.Draw ∷ decimal n ∷ decimal s ∷ decimal k ∷ []
 query_tokens (query.DrawStat t n s k) = form_name form.DrawStat ∷ statistic_name t ∷ decimal n ∷ decimal s ∷ decimal k ∷ []
+query_tokens (query.Stat t n) = form_name form.Stat ∷ statistic_name t ∷ decimal n ∷ []
+query_tokens (query.Pick t v n) = form_name form.Pick ∷ statistic_name t ∷ decimal v ∷ decimal n ∷ []
 
 -- the canonical text of a query
 unfoldable pub query_text : Query → List ℕ

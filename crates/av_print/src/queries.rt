@@ -99,6 +99,11 @@ pub fn put_query<K: Sink>(sink: &mut K, query: &Query) -> Result<(), SinkFault>
             let draws = Spaced((Number(u128::from(*seed)), Number(u128::from(*many))));
             Spaced((Form::DrawStat, kind, n, draws)).put_on(sink)
         }
+        Query::Stat { kind, n } => Spaced((Form::Stat, kind, n)).put_on(sink),
+        Query::Pick { kind, value, n } => {
+            let value = Number(u128::from(*value));
+            Spaced((Form::Pick, kind, value, n)).put_on(sink)
+        }
     }
 }
 

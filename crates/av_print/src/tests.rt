@@ -106,11 +106,26 @@ fn canonical_texts_of_queries(rt: HostRuntime) -> Result<(), Fail> {
             many: 100_000,
         },
     )?;
+    put_line(
+        &mut sink,
+        Query::Stat {
+            kind: StatKind::Inv,
+            n: 12,
+        },
+    )?;
+    put_line(
+        &mut sink,
+        Query::Pick {
+            kind: StatKind::Des,
+            value: 12_720,
+            n: 1,
+        },
+    )?;
     assert_eq!(rt;
         sink.bytes(),
         &b"count 7\ncounts 160\nlist 5 from 2 for 1000000\n\
            unrank 10 340282366920938463463374607431768211455\nrank 213\ntree 213\n\
-           draw 3 18446744073709551615 2\ndrawstat lrm 160 0 100000\n"[..]
+           draw 3 18446744073709551615 2\ndrawstat lrm 160 0 100000\nstat inv 12\npick des 12720 1\n"[..]
     );
     Ok(())
 }
