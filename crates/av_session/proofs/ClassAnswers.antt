@@ -21,6 +21,7 @@ use Rattle.av_session.specs.Answers.{place_among}
 use Rattle.av_session.specs.Drawing.{draw}
 use Rattle.av_session.specs.Runs.{HasBad, IsDrawnMember, HasAnswers}
 use Rattle.av_session.proofs.Places.{placed, no_place}
+use Rattle.av_session.proofs.Picks.{are_picked, has_bars}
 use Rattle.av_session.proofs.Summaries.{is_summary}
 
 -- what is found passes the test, and where none is found each fails it
@@ -92,4 +93,13 @@ module _ (basis : List (List ℕ)) (class : Class) (form : IsWellFormed class.sy
       }
 
   pub has_answers : HasAnswers basis class
-  has_answers = record { listed = listed_all; counted = as_many; ranked = ranked_one; strange = strange_none; drawn = drawn_one; summed = is_summary }
+  has_answers = record {
+    listed = listed_all;
+    counted = as_many;
+    ranked = ranked_one;
+    strange = strange_none;
+    drawn = drawn_one;
+    summed = is_summary;
+    barred = λ t n h. has_bars basis (members class.system n) t n (listed_all n h);
+    picked_all = λ t v n. are_picked t v (members class.system n);
+  }

@@ -1,5 +1,5 @@
 -- The status of a script that was answered.
-use Rattle.std.proofs.Common.{◌≡◌, List, ℕ, refl, sym, subst}
+use Rattle.std.proofs.Common.{◌≡◌, sym, subst}
 use Rattle.av_perm.specs.Class.{minimal}
 use Rattle.av_text.specs.declared.script.Script.{Script}
 use Rattle.av_session.specs.declared.options.Options.{Options}

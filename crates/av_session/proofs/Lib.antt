@@ -8,6 +8,8 @@ pub mod OptionSteps
 pub mod OptionLaw
 pub mod AllowedOptions
 pub mod Ends
+pub mod FewMembers
+pub mod Picks
 pub mod Abouts
 pub mod SolvedClasses
 pub mod Places

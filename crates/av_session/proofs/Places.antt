@@ -1,12 +1,11 @@
 -- The rank of a word is its place among the members of its length, and a word that is none contains a word of the basis.
-use Rattle.std.proofs.Common.{◌≡◌, ℕ, zero, suc, ◌+◌, ◌^◌, ◌<◌, ◌≤◌, List, [], ◌∷◌, length, find, slice_get, Bool, true, false, nat_lt, nat_eq, is_some, cond, Option, Some, None, codes, decimal, refl, sym, ap, ◌∙◌, subst, arith}
+use Rattle.std.proofs.Common.{◌≡◌, ℕ, zero, suc, ◌+◌, ◌^◌, ◌<◌, ◌≤◌, List, [], ◌∷◌, length, find, slice_get, Bool, true, false, nat_eq, is_some, Some, None, codes, decimal, refl, sym, ap, ◌∙◌, subst, arith}
 use Rattle.std.proofs.lemmas.Bool.{and_parts, eqb-true, lt-ltb, le-ltb}
 use Rattle.std.proofs.lemmas.Option.{slice_get_within}
-use Rattle.std.specs.List.{position_or_len, position}
+use Rattle.std.specs.List.{position_or_len}
 use Rattle.std.specs.Cmp.Lexicographic.{pointwise}
 use Rattle.av_perm.specs.Lists.{same}
 use Rattle.av_perm.specs.Contain.{contains, first_occurrence}
-use Rattle.av_perm.specs.Relations.{InClass}
 use Rattle.av_perm.proofs.Tests.{same_refl}
 use Rattle.av_match.specs.declared.contained.Bad.{Bad}
 use Rattle.av_match.specs.FirstBad.{IsFirstBad}
@@ -16,11 +15,11 @@ use Rattle.av_sys.specs.TreeLists.{members}
 use Rattle.av_tree.specs.declared.ranking.Ranked.{Ranked}
 use Rattle.av_tree.specs.declared.ranking.Ranked.TheVariants.{At, Big, Stranger}
 use Rattle.av_tree.specs.Ranks.{IsRanked}
-use Rattle.av_tree.specs.Laws.{StandsAt, IsRankIn}
+use Rattle.av_tree.specs.Laws.{IsRankIn}
 use Rattle.av_tree.proofs.ClassRanks.{unrank_law, rank_law}
 use Rattle.av_print.specs.Text.{◌⊹◌, word_text, places_text}
 use Rattle.av_session.specs.Classes.{Class, IsSettledClass}
-use Rattle.av_session.specs.Answers.{bad_text, occurrence_text, rank_text, place_text, place_among}
+use Rattle.av_session.specs.Answers.{bad_text, occurrence_text, place_text, place_among}
 
 -- lists of numbers that pass the test are equal
 same_is : (v w : List ℕ) → same v w ≡ true → v ≡ w

@@ -1,13 +1,12 @@
 -- What is known of a class, by its gap and by what has grown within the limit of sizes.
-use Rattle.std.proofs.Common.{◌≡◌, ℕ, ◌<◌, ◌≤◌, List, Option, Some, None, Bool, true, false, nat_lt, refl, sym, ap, subst, if◌then◌else◌}
+use Rattle.std.proofs.Common.{◌≡◌, ℕ, ◌<◌, ◌≤◌, List, Option, Some, None, Bool, true, false, nat_lt, refl, ap, subst, if◌then◌else◌}
 use Rattle.std.proofs.lemmas.Bool.{ltb-true, ltb-false, lt-ltb, le-ltb}
 use Rattle.av_perm.specs.Gap.{gap, IsSettled, IsUnsettled}
 use Rattle.av_simple.specs.Searched.{Searched}
-use Rattle.av_build.specs.Canonical.{Grown, grown_size, as_system}
+use Rattle.av_build.specs.Canonical.{grown_size, as_system}
 use Rattle.av_session.specs.declared.options.Options.{Options}
 use Rattle.av_session.specs.Classes.{Class}
-use Rattle.av_session.specs.declared.solving.Solved.{Solved}
-use Rattle.av_session.specs.declared.solving.Solved.TheVariants.{Unsettled, TooLarge, Settled}
+use Rattle.av_session.specs.declared.solving.Solved.TheVariants.{TooLarge, Settled}
 use Rattle.av_session.specs.declared.status.Status.TheVariants as status
 use Rattle.av_session.specs.Solved.{grown_to, sized, solved_by, solved, status_of}
 

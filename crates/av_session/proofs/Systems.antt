@@ -1,6 +1,5 @@
 -- The system of a script whose class is settled.
-use Rattle.std.proofs.Common.{◌≡◌, ℕ, suc, ◌≤◌, ◌↔◌, inl, inr, List, [], ◌∷◌, length, if◌then◌else◌, get_or, All, true, refl, sym, ap, subst, arith}
-use Rattle.std.proofs.lemmas.Bool.{le-ltb}
+use Rattle.std.proofs.Common.{◌≡◌, ℕ, suc, ◌≤◌, ◌↔◌, inl, inr, List, [], ◌∷◌, length, get_or, All, true, refl, sym, ap, subst, arith}
 use Rattle.std.proofs.lemmas.List.Elements.{All-get_or}
 use Rattle.av_perm.specs.declared.limits.TheConstants.{MAX_PATTERN_LENGTH, MAX_ROOT_LENGTH}
 use Rattle.av_perm.specs.Members.{In}
@@ -21,7 +20,7 @@ use Rattle.av_sys.specs.declared.terms.System.{System}
 use Rattle.av_sys.specs.Names.{IsMadeOfWords}
 use Rattle.av_sys.specs.Terms.{IsWellFormed, AreNamedByWords}
 use Rattle.av_sys.specs.Exact.{Exact, Named}
-use Rattle.av_build.specs.Canonical.{IsCanonical, first_name, grow, grown_size, equations_of, as_system}
+use Rattle.av_build.specs.Canonical.{IsCanonical, first_name, grow, equations_of, as_system}
 use Rattle.av_build.specs.Laws.{AreRoots, IsNameOver}
 use Rattle.av_build.proofs.NamesOver.{first_name_ok}
 use Rattle.av_build.proofs.Growing.{grow_over}
@@ -32,7 +31,6 @@ use Rattle.av_print.proofs.ReadSystems.{system_text_once}
 use Rattle.av_text.specs.declared.script.Script.{Script}
 use Rattle.av_text.specs.Ranges.{IsBasisWord, KeepsLimits}
 use Rattle.av_text.proofs.Kept.{read_kept}
-use Rattle.av_session.specs.Classes.{Class}
 use Rattle.av_session.specs.Solved.{IsBasis}
 use Rattle.av_session.specs.Due.{settled_text, script_text, text_due}
 use Rattle.av_session.specs.Runs.{due, WritesSystem}

@@ -1,14 +1,16 @@
 -- Texts that wait, one after another, and the lines of a list among them.
-use Rattle.std.proofs.Common.{◌≡◌, ℕ, zero, suc, ◌+◌, ◌<◌, List, [], ◌∷◌, ◌++◌, length, take, drop, get_or, flat_map, Option, refl, sym, ap, ◌∙◌, subst, arith, append_assoc, append-nil}
+use Rattle.std.proofs.Common.{◌≡◌, ℕ, zero, suc, ◌+◌, ◌<◌, List, [], ◌∷◌, ◌++◌, length, take, drop, get_or, flat_map, Bool, Option, Some, None, refl, sym, ap, ◌∙◌, subst, arith, append_assoc, append-nil}
 use Rattle.std.proofs.KnownBytes.{Appends-trans}
 use Rattle.av_io.specs.Passed.{PassesOn}
 use Rattle.av_sys.specs.declared.terms.System.{System}
 use Rattle.av_sys.specs.TreeLists.{members}
 use Rattle.av_list.specs.Items.{items_from}
+use Rattle.av_list.specs.Sieving.{SkipsTo}
+use Rattle.av_list.proofs.Sieved.{sieve_next, sieve_last}
 use Rattle.av_print.specs.Wrote.{AppendsPart}
 use Rattle.av_print.proofs.Written.{AppendsUpTo, items_from as texts_from, part_more, part_step, up_to_part_of, up_to_start}
 use Rattle.av_print.proofs.WaitingTexts.{up_to_gathered, up_to_passed}
-use Rattle.av_session.specs.Answers.{row_text, rows_text}
+use Rattle.av_session.specs.Answers.{row_text, rows_text, Tells, kept_text}
 
 -- a second text after a first
 pub passes_then : (old mid new : Option (List ℕ)) (waited s between t waiting : List ℕ) → PassesOn old mid (waited ++ s) between → PassesOn mid new (between ++ t) waiting → PassesOn old new (waited ++ (s ++ t)) waiting
@@ -86,6 +88,29 @@ line_fails items after row n m old mid new text waited e f u p =
 pub lines_none : (items : List (ℕ × List ℕ)) (n : ℕ) → (0 < n → items ≡ []) → lines_of n items ≡ []
 lines_none items zero e = refl
 lines_none items (suc n) e = ap (lines_of (suc n)) (e (omega arith))
+
+-- the lines of the items that a sieve gives: the first of them
+kept_next : (answers : List ℕ → Bool → Type 0) (p : List ℕ → Bool) (items after : List (ℕ × List ℕ)) (row : ℕ × List ℕ) → Tells answers p → SkipsTo answers items (Some row) after
+    → kept_text p items ≡ row_text row ++ kept_text p after
+unfolding kept_text
+kept_next answers p items after row told s = ap (flat_map row_text) (sieve_next answers p told items after row s)
+
+pub kept_waits : (answers : List ℕ → Bool → Type 0) (p : List ℕ → Bool) (items after : List (ℕ × List ℕ)) (row : ℕ × List ℕ) (old mid new : Option (List ℕ)) (text waited waiting : List ℕ) → Tells answers p
+    → SkipsTo answers items (Some row) after → AppendsUpTo old mid text (waited ++ kept_text p items) → PassesOn mid new (waited ++ row_text row) waiting → AppendsUpTo old new text (waiting ++ kept_text p after)
+kept_waits answers p items after row old mid new text waited waiting told s u q =
+    next_waits old mid new text waited (row_text row) (kept_text p after) waiting
+    (subst (λ l. AppendsUpTo old mid text (waited ++ l)) (kept_next answers p items after row told s) u) q
+
+pub kept_fails : (answers : List ℕ → Bool → Type 0) (p : List ℕ → Bool) (items after : List (ℕ × List ℕ)) (row : ℕ × List ℕ) (old mid new : Option (List ℕ)) (text waited : List ℕ) → Tells answers p
+    → SkipsTo answers items (Some row) after → AppendsUpTo old mid text (waited ++ kept_text p items) → AppendsPart mid new (waited ++ row_text row) → AppendsPart old new text
+kept_fails answers p items after row old mid new text waited told s u q =
+    next_fails old mid new text waited (row_text row) (kept_text p after)
+    (subst (λ l. AppendsUpTo old mid text (waited ++ l)) (kept_next answers p items after row told s) u) q
+
+-- no line is left after the last
+pub kept_none : (answers : List ℕ → Bool → Type 0) (p : List ℕ → Bool) (items after : List (ℕ × List ℕ)) → Tells answers p → SkipsTo answers items None after → kept_text p items ≡ []
+unfolding kept_text
+kept_none answers p items after told s = ap (flat_map row_text) (sieve_last answers p told items after s).0
 
 -- what was passed on is all but what waits
 pub passed_to : (old new : Option (List ℕ)) (text waiting rest : List ℕ) → AppendsUpTo old new text (waiting ++ rest) → rest ≡ [] → PassesOn old new text waiting

@@ -1,7 +1,9 @@
 -- The answers of the queries about a settled class.
-use Rattle.std.specs.Prelude.{ℕ, ◌^◌, ◌==◌, List, [], length, take, drop, flat_map, find, slice_get, nat_lt, if◌then◌else◌, Option, Some, None, codes, decimal}
-use Rattle.std.specs.List.{position}
+use Rattle.std.specs.Prelude.{◌≡◌, ℕ, Bool, ◌^◌, ◌==◌, List, [], ◌∷◌, length, take, drop, flat_map, filter, find, slice_get, nat_lt, if◌then◌else◌, Option, Some, None, codes, decimal}
+use Rattle.std.specs.List.{position, join_by}
 use Rattle.av_perm.specs.Lists.{same, counting}
+use Rattle.av_perm.specs.declared.StatKind.{StatKind}
+use Rattle.av_perm.specs.Stat.{statistic_of}
 use Rattle.av_perm.specs.Contain.{contains, first_occurrence}
 use Rattle.av_decomp.specs.Trees.{dec}
 use Rattle.av_sys.specs.declared.terms.System.{System}
@@ -10,6 +12,8 @@ use Rattle.av_count.specs.declared.count.Count.{Count}
 use Rattle.av_count.specs.declared.count.Count.TheVariants.{Known, Over}
 use Rattle.av_count.specs.Counts.{capped}
 use Rattle.av_list.specs.Items.{items_from}
+use Rattle.av_stat.specs.declared.bars.Bar.{Bar}
+use Rattle.av_stat.specs.Histograms.{bars}
 use Rattle.av_text.specs.declared.queries.Query.{Query}
 use Rattle.av_text.specs.declared.queries.Query.TheVariants as query
 use Rattle.av_print.specs.Text.{◌⊹◌, word_text, places_text, ranked_text, count_text, query_text, tree_text}
@@ -76,6 +80,39 @@ abbrev pub drawn_answer : Query → Count → List ℕ → List ℕ
 drawn_answer q Over text = one_line q (codes "over")
 drawn_answer q (Known c) text = if c == 0 then one_line q (codes "none of 0") else text
 
+-- a bar: a value, and how many have it
+abbrev pub bar_text : Bar → List ℕ
+bar_text b = decimal b.value ⊹ codes ":" ⊹ decimal b.count
+
+-- bars joined by single spaces, or `none`
+unfoldable pub bars_text : List Bar → List ℕ
+bars_text [] = codes "none"
+bars_text (b ∷ bs) = join_by bar_text (codes " ") (b ∷ bs)
+
+-- the rows whose word passes a test, in their order
+abbrev pub kept : (List ℕ → Bool) → List (ℕ × List ℕ) → List (ℕ × List ℕ)
+kept p rows = filter (λ (row : ℕ × List ℕ). p row.1) rows
+
+-- a closure whose answers on a word are these answers this test
+abbrev pub Tells : (List ℕ → Bool → Type 0) → (List ℕ → Bool) → Type 0
+Tells answers p = (w : List ℕ) (b : Bool) → answers w b → b ≡ p w
+
+-- their lines
+unfoldable pub kept_text : (List ℕ → Bool) → List (ℕ × List ℕ) → List ℕ
+kept_text p rows = flat_map row_text (kept p rows)
+
+-- whether a statistic has a value
+abbrev pub has_value : StatKind → ℕ → List ℕ → Bool
+has_value t v w = statistic_of t w == v
+
+-- the rows whose word has a value of a statistic, in their order
+unfoldable pub picked : StatKind → ℕ → List (ℕ × List ℕ) → List (ℕ × List ℕ)
+picked t v rows = kept (has_value t v) rows
+
+-- the lines of the members of length n that have a value of a statistic
+unfoldable pub picked_text : System → StatKind → ℕ → ℕ → List ℕ
+picked_text S t v n = kept_text (has_value t v) (items_from 0 (members S n))
+
 -- the answer of a query
 unfoldable pub answer_text : Class → Query → List ℕ
 answer_text class (query.Count n) = one_line (query.Count n) (count_text (member_count class.system n))
@@ -90,6 +127,8 @@ answer_text class (query.Draw n s k) =
 answer_text class (query.DrawStat t n s k) =
     drawn_answer (query.DrawStat t n s k) (member_count class.system n)
     (one_line (query.DrawStat t n s k) (summary_text (drawn_values t (draws (members class.system n) s k))))
+answer_text class (query.Stat t n) = one_line (query.Stat t n) (bars_text (bars t (members class.system n)))
+answer_text class (query.Pick t v n) = query_text (query.Pick t v n) ⊹ codes " =\n" ⊹ picked_text class.system t v n ⊹ codes "end\n"
 
 -- the greatest length at which a query asks of the members; none for the tree of a word
 abbrev pub length_needed : Query → ℕ
@@ -101,3 +140,5 @@ length_needed (query.Rank w) = length w
 length_needed (query.Tree w) = 0
 length_needed (query.Draw n s k) = n
 length_needed (query.DrawStat t n s k) = n
+length_needed (query.Stat t n) = n
+length_needed (query.Pick t v n) = n

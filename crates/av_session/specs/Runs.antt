@@ -1,8 +1,12 @@
 -- What a run is about: the text due of the words and the bytes, what it says of the class, and what its system generates.
-use Rattle.std.specs.Prelude.{◌≡◌, ℕ, suc, ◌<◌, ◌≤◌, ◌↔◌, ◌⊎◌, List, [], length, flat_map, find, slice_get, Option, Some, None, Ok}
+use Rattle.std.specs.Prelude.{◌≡◌, ℕ, suc, ◌^◌, ◌<◌, ◌≤◌, ◌↔◌, ◌⊎◌, List, [], length, map, flat_map, find, slice_get, Option, Some, None, Ok}
 use Rattle.std.specs.Io.KnownBytes.{IsAtEnd}
 use Rattle.std.specs.Option.{option_and_then}
-use Rattle.av_perm.specs.Members.{In, IsListOf}
+use Rattle.std.specs.Ordering.{nat_cmp}
+use Rattle.std.specs.declared.cmp.Ordering.{Ordering}
+use Rattle.av_perm.specs.declared.StatKind.{StatKind}
+use Rattle.av_perm.specs.Members.{In, IsListOf, Ascending}
+use Rattle.av_perm.specs.Stat.{statistic_of}
 use Rattle.av_perm.specs.Class.{minimal}
 use Rattle.av_perm.specs.Contain.{contains, first_occurrence}
 use Rattle.av_perm.specs.Gap.{simples, simples_below, IsSettled, IsUnsettled}
@@ -14,6 +18,9 @@ use Rattle.av_sys.specs.Terms.{IsWellFormed, AreNamedByWords}
 use Rattle.av_sys.specs.TreeLists.{members, count_of}
 use Rattle.av_sys.specs.Exact.{Exact, Named}
 use Rattle.av_build.specs.Canonical.{grow, grown_size, IsTooLarge, IsCanonical}
+use Rattle.av_list.specs.Items.{items_from}
+use Rattle.av_stat.specs.declared.bars.Bar.{Bar}
+use Rattle.av_stat.specs.Histograms.{bars}
 use Rattle.av_text.specs.declared.script.Script.{Script}
 use Rattle.av_text.specs.Demo.{demo_script}
 use Rattle.av_text.specs.Read.{read}
@@ -27,7 +34,7 @@ use Rattle.av_session.specs.Options.{options}
 use Rattle.av_print.specs.Text.{◌⊹◌}
 use Rattle.av_print.specs.Systems.{system_text}
 use Rattle.av_session.specs.Drawing.{draw, least_of, greatest_of}
-use Rattle.av_session.specs.Answers.{answer_text, place_among}
+use Rattle.av_session.specs.Answers.{answer_text, place_among, picked}
 use Rattle.av_session.specs.Due.{text_due, settled_header}
 use Rattle.av_session.specs.Solved.{solved, status_of}
 use Rattle.av_session.specs.Status.{FitsText}
@@ -120,6 +127,30 @@ pub record IsSummary (xs : List ℕ) : Type 0 where
   pub greatest : In (greatest_of xs) xs
   pub none_greater : (x : ℕ) → In x xs → x ≤ greatest_of xs
 
+-- how many permutations of length n that avoid the basis have a value of a statistic: as many as a list of exactly these, each
+-- once, has
+pub record IsCountOf (basis : List (List ℕ)) (t : StatKind) (n v count : ℕ) : Type 0 where
+  pub words : List (List ℕ)
+  pub listed : IsListOf (λ σ. InClassAt basis n σ × (statistic_of t σ ≡ v)) words
+  pub many : length words ≡ count
+
+-- the bars of a statistic over the permutations of length n that avoid the basis: values increase, each says how many of them
+-- have it, one at least, and each of them has its value there
+pub record HasBars (basis : List (List ℕ)) (t : StatKind) (n : ℕ) (bs : List Bar) : Type 0 where
+  pub increasing : Ascending nat_cmp (map (λ (b : Bar). b.value) bs)
+  pub counted : (b : Bar) → In b bs → (1 ≤ b.count) × IsCountOf basis t n b.value b.count
+  pub whole : (σ : List ℕ) → InClassAt basis n σ → In (statistic_of t σ) (map (λ (b : Bar). b.value) bs)
+
+-- the order of rows by their ranks
+abbrev pub by_rank : ℕ × List ℕ → ℕ × List ℕ → Ordering
+by_rank row other = nat_cmp row.0 other.0
+
+-- the rows of the words that have a value of a statistic, in order of rank: a word's rank is its place in the list, and rows
+-- have ranks below 2 ^ 128
+pub record ArePicked (t : StatKind) (v : ℕ) (ws : List (List ℕ)) (rows : List (ℕ × List ℕ)) : Type 0 where
+  pub ordered : Ascending by_rank rows
+  pub members : (row : ℕ × List ℕ) → In row rows ↔ ((row.0 < 2 ^ 128) × (slice_get ws row.0 ≡ Some row.1) × (statistic_of t row.1 ≡ v))
+
 -- what the answers about a class's members say, in the words of the textbook
 pub record HasAnswers (basis : List (List ℕ)) (class : Class) : Type 0 where
   -- the list of the members of a length, which lists and draws from, holds each permutation of that length that avoids the basis,
@@ -135,6 +166,10 @@ pub record HasAnswers (basis : List (List ℕ)) (class : Class) : Type 0 where
   pub drawn : (n seed d : ℕ) → 1 ≤ n → 1 ≤ count_of class.system n → IsDrawnMember basis class n (draw (members class.system n) seed d)
   -- the least and the greatest value of a statistic over draws are what they are called
   pub summed : (xs : List ℕ) → 1 ≤ length xs → IsSummary xs
+  -- the bars of a statistic say how many permutations of a length that avoid the basis have each value
+  pub barred : (t : StatKind) (n : ℕ) → 1 ≤ n → HasBars basis t n (bars t (members class.system n))
+  -- the members that are picked are those with the value, in order of rank
+  pub picked_all : (t : StatKind) (v n : ℕ) → ArePicked t v (members class.system n) (picked t v (items_from 0 (members class.system n)))
 
 -- the system of these options and this script, whose class is settled: its text stands in the text due of the words and the
 -- bytes, and it generates the class

@@ -17,6 +17,7 @@ use crate::listing::put_list;
 use crate::members::{CountsTo, member_count};
 use crate::ranks::{place_of, word_at};
 use crate::solving::SettledClass;
+use crate::statistics::{BarsText, histogram_of, put_pick};
 use crate::stop::Stop;
 use crate::waiting::put_text;
 use av_count::{Count, Table};
@@ -39,6 +40,7 @@ fn length_needed(query: &Query) -> usize
         Query::Rank { word } => word.len(),
         Query::Tree { .. } => 0,
         Query::Draw { n, .. } | Query::DrawStat { n, .. } => usize::from(*n),
+        Query::Stat { n, .. } | Query::Pick { n, .. } => usize::from(*n),
     }
 }
 
@@ -286,6 +288,16 @@ fn put_answer<K: Sink>(
             let n = usize::from(*n);
             let table = needed(class, table, n);
             put_drawn_statistic(sink, waiting, class, table, query, *kind, n, *seed, *many)
+        }
+        Query::Stat { kind, n } => {
+            let n = usize::from(*n);
+            let bars = histogram_of(alloc, class, needed(class, table, n), *kind, n)?;
+            put_line(sink, waiting, query, &BarsText { bars: &bars })
+        }
+        Query::Pick { kind, value, n } => {
+            let n = usize::from(*n);
+            let table = needed(class, table, n);
+            put_pick(alloc, sink, waiting, class, table, query, *kind, *value, n)
         }
     }
 }

@@ -8,6 +8,8 @@
 mod answers;
 mod command;
 mod draws;
+#[cfg(test)]
+mod faults;
 mod header;
 mod listing;
 mod members;
@@ -18,6 +20,7 @@ mod reading;
 mod recurrences;
 mod session;
 mod solving;
+mod statistics;
 mod status;
 mod stop;
 #[cfg(test)]

@@ -1,18 +1,17 @@
 // Whole runs, with sources and sinks in memory: what is written, and how the run ends.
-ghost use Rattle.std.specs.Prelude.{◌≡◌, ◌≤◌, length, None};
 
 use crate::{Options, Status, read_words, run};
-use av_io::{Failed, MemSink, MemSource, Source, SureSink, SureSource};
+use av_io::{SureSink, SureSource};
 use av_match::minimal;
 use av_perm::{Memory, NotPerm, Perm, Words, is_simple};
 use av_simple::{Outcome, search};
-use av_text::{demo_script, read_script};
+use av_text::read_script;
 use std::alloc::{AllocError, Global};
 use std::test::Fail;
 
-const CATALAN: &[u8] = b"basis 132\ncount 7\n";
+pub const CATALAN: &[u8] = b"basis 132\ncount 7\n";
 
-const CATALAN_ANSWER: &[u8] = b"permspec 1
+pub const CATALAN_ANSWER: &[u8] = b"permspec 1
 basis 132
 simples 4:0 5:0
 gap 4
@@ -27,7 +26,7 @@ count 7 = 429
 ";
 
 // The words of a command line.
-fn command_line(alloc: Global, texts: &[&str]) -> Result<Vec<String>, AllocError> {
+pub fn command_line(alloc: Global, texts: &[&str]) -> Result<Vec<String>, AllocError> {
     let mut words = Vec::new(alloc);
     for text in texts {
         words.push(String::from_str(alloc, text)?)?;
@@ -52,55 +51,11 @@ pub fn run_script(alloc: Global, options: &[&str], script: &[u8]) -> Result<Ende
     Ok(Ended { status, held })
 }
 
-// What the second read of a source does.
-#[derive(Clone, Copy, Drop)]
-enum Second {
-    Fails,
-    Ends,
-}
-
-// A source that gives the basis line of 132 at its first read and at each from the third on.
-#[derive(Drop)]
-struct Resuming {
-    second: Second,
-    calls: u64,
-}
-
-impl Resuming {
-    fn new(second: Second) -> Resuming {
-        Resuming { second, calls: 0 }
-    }
-}
-
-impl Source for Resuming {
-    ghost left = { λ _. None };
-
-    ghost faults = { λ s. s.calls };
-
-    fn read(&mut self, buf: &mut [u8]) -> Result<usize, Failed> {
-        self.calls = self.calls.saturating_add(1);
-        match (self.calls, self.second) {
-            (2, Second::Fails) => Err(Failed),
-            (2, Second::Ends) => Ok(0),
-            _ => Ok(copy_front(b"basis 132\n", buf)),
-        }
-    }
-}
-
-// Copies as many bytes as there is room for.
-fn copy_front(bytes: &[u8], buf: &mut [u8]) -> usize
-    ensures within { result ≤ length buf.new }
-    ensures long { length buf.new ≡ length buf.old }
-{
-    let count = bytes.len().min(buf.len());
-    buf[..count].copy_from_slice(&bytes[..count]);
-    count
-}
-
 static ANSWERED: [(&str, Status, &str); 11] = [
     (
         "basis 132\nlist 3\nlist 3 from 3 for 9\nlist 3 from 5\nrank 231\nrank 132\nunrank 3 4\nunrank 3 5\ndraw 3 0 2\n\
-         drawstat inv 3 0 2\ndrawstat des 3 0 2\ndrawstat lrm 3 0 2\n",
+         drawstat inv 3 0 2\ndrawstat des 3 0 2\ndrawstat lrm 3 0 2\nstat inv 3\nstat des 3\nstat lrm 3\npick inv 2 3\n\
+         pick inv 4 3\n",
         Status::Done,
         "permspec 1
 basis 132
@@ -137,6 +92,15 @@ end
 drawstat inv 3 0 2 = least 2 most 3 total 5
 drawstat des 3 0 2 = least 1 most 2 total 3
 drawstat lrm 3 0 2 = least 1 most 1 total 2
+stat inv 3 = 0:1 1:1 2:2 3:1
+stat des 3 = 0:1 1:3 2:1
+stat lrm 3 = 1:2 2:2 3:1
+pick inv 2 3 =
+2 312
+4 231
+end
+pick inv 4 3 =
+end
 ",
     ),
     (
@@ -214,7 +178,7 @@ count 1 = 1
 ",
     ),
     (
-        "basis 1\ncount 1\ndraw 1 0 1\ndrawstat inv 1 0 1\n",
+        "basis 1\ncount 1\ndraw 1 0 1\ndrawstat inv 1 0 1\nstat inv 1\npick inv 0 1\n",
         Status::Done,
         "permspec 1
 basis 1
@@ -226,6 +190,9 @@ end
 count 1 = 0
 draw 1 0 1 = none of 0
 drawstat inv 1 0 1 = none of 0
+stat inv 1 = none
+pick inv 0 1 =
+end
 ",
     ),
     (
@@ -420,82 +387,6 @@ fn the_options_are_accepted(rt: HostRuntime) -> Result<(), Fail> {
         demo: None,
     };
     assert!(rt; read_words(rt.alloc(), &words) == Ok(wanted));
-    Ok(())
-}
-
-#[test]
-fn sources_may_fail_or_give_a_byte_a_call(rt: HostRuntime) -> Result<(), Fail> {
-    let alloc = rt.alloc();
-    let mut failing = MemSource::new(Vec::from_slice(alloc, CATALAN)?, 1, vec![in alloc; 1]?);
-    let mut unused = SureSink::new(alloc);
-    let status = run(alloc, &[], &mut failing, &mut unused);
-    assert!(rt; status == Status::ReadFault);
-    assert!(rt; unused.bytes().is_empty());
-
-    let mut slow = MemSource::new(Vec::from_slice(alloc, CATALAN)?, 1, Vec::new(alloc));
-    let mut sink = SureSink::new(alloc);
-    let status = run(alloc, &[], &mut slow, &mut sink);
-    assert!(rt; status == Status::Done);
-    assert!(rt; sink.bytes() == CATALAN_ANSWER);
-    Ok(())
-}
-
-// A source that would fail isn't read: the answer is that of the demo script.
-#[test]
-fn a_demo_reads_no_source(rt: HostRuntime) -> Result<(), Fail> {
-    let alloc = rt.alloc();
-    let words = command_line(alloc, &["--demo", "10", "--max-simple=6"])?;
-    let mut source = Resuming::new(Second::Fails);
-    let mut sink = SureSink::new(alloc);
-    let status = run(alloc, &words, &mut source, &mut sink);
-    let Ok(script) = demo_script(alloc, 10) else {
-        assert!(rt; false);
-        return Ok(());
-    };
-    let wanted = run_script(alloc, &["--max-simple=6"], &script)?;
-    assert!(rt; status == wanted.status);
-    assert!(rt; sink.bytes() == wanted.held.as_slice());
-    assert_eq!(rt; source.calls, 0);
-    Ok(())
-}
-
-// The second read of a source fails: nothing is written, and there is no third read.
-#[test]
-fn the_first_read_that_fails_ends_the_run(rt: HostRuntime) -> Result<(), Fail> {
-    let alloc = rt.alloc();
-    let mut source = Resuming::new(Second::Fails);
-    let mut sink = SureSink::new(alloc);
-    let status = run(alloc, &[], &mut source, &mut sink);
-    assert!(rt; status == Status::ReadFault);
-    assert!(rt; sink.bytes().is_empty());
-    assert_eq!(rt; source.calls, 2);
-    Ok(())
-}
-
-// A source would give more after its end: it isn't read any more.
-#[test]
-fn the_first_read_that_gives_none_ends_the_reading(rt: HostRuntime) -> Result<(), Fail> {
-    let alloc = rt.alloc();
-    let mut source = Resuming::new(Second::Ends);
-    let mut sink = SureSink::new(alloc);
-    let status = run(alloc, &[], &mut source, &mut sink);
-    assert!(rt; status == Status::Done);
-    assert!(rt; sink.bytes() == &CATALAN_ANSWER[..CATALAN_ANSWER.len() - 14]);
-    assert_eq!(rt; source.calls, 2);
-    Ok(())
-}
-
-// A sink of one byte a call whose call c fails holds the first c - 1 bytes.
-#[test]
-fn a_sink_that_fails_holds_what_it_took(rt: HostRuntime) -> Result<(), Fail> {
-    let alloc = rt.alloc();
-    for call in 1..CATALAN_ANSWER.len() + 1 {
-        let mut source = SureSource::new(Vec::from_slice(alloc, CATALAN)?);
-        let mut sink = MemSink::new(alloc, 1, vec![in alloc; call as u64]?);
-        let status = run(alloc, &[], &mut source, &mut sink);
-        assert!(rt; status == Status::WriteFault, "{call}");
-        assert!(rt; sink.bytes() == &CATALAN_ANSWER[..call - 1], "{call}");
-    }
     Ok(())
 }
 

@@ -1,5 +1,5 @@
 -- The rank of a word is its place among the members.
-use Rattle.std.proofs.Common.{◌≡◌, ◌≤◌, length, nat_le, subst, sym, ◌∙◌, arith}
+use Rattle.std.proofs.Common.{length, nat_le, subst, ◌∙◌}
 use Rattle.std.proofs.lemmas.Bool.{and_parts}
 use Rattle.av_perm.specs.declared.limits.TheConstants.{MAX_LENGTH}
 use Rattle.av_perm.specs.Word.{is_word}

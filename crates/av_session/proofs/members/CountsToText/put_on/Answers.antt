@@ -1,5 +1,5 @@
 -- A turn of the loop over the lengths, and its end.
-use Rattle.std.proofs.Common.{◌≡◌, subst, arith}
+use Rattle.std.proofs.Common.{subst, arith}
 use Rattle.av_print.proofs.Written.{AppendsUpTo, up_to_start}
 use Rattle.av_session.specs.Answers.{spaced_count, counts_text}
 use Rattle.av_session.proofs.Levels.{texts_one, text_turn, text_fault, text_end}
