@@ -3,19 +3,22 @@
 alone. For each class: the list of each length holds exactly the permutations that avoid the basis, each once; the counts are
 how many they are; `rank` and `unrank` lead from each member to its line and back; `rank` of any other permutation names the
 first word of the basis that it contains, at its first occurrence; `draw` gives the members at the ranks that ChaCha20's block
-function leads to, and `drawstat` what their statistics are. From every tenth rank on, and at and past the last rank, a list of
-a length to 8 holds what unranking each rank gives; so do a few lines of a long length from ranks all over the list. For three
-classes that the literature knows, the counts to length 40 are those of a recurrence. Prints a line for each, and ends with 1
-on a difference."""
+function leads to, and `drawstat` what their statistics are; `stat` says how many members have each value, and `pick` gives
+those that have one. From every tenth rank on, and at and past the last rank, a list of a length to 8 holds what unranking each
+rank gives; so do a few lines of a long length from ranks all over the list. For three classes that the literature knows, the
+counts to length 40 are those of a recurrence, and the descents of one have known numbers. Prints a line for each, and ends
+with 1 on a difference."""
 import subprocess
 import sys
 from itertools import combinations, permutations
+from math import comb
 
 LONGEST = 7
 LONGEST_LIST = 8
 GREATEST_RANK = 2**128 - 1
 CLASSES = ["132", "231", "2413 3142", "123 132", "2143 2413 3142", "1324 2413 3142", "2143 2413 3142 3412",
-           "321 2413 3142", "1243 2413 41352 531642", "12"]
+           "321 2413 3142", "1243 2413 41352 531642", "12",
+           "24153 25314 31524 35142 41352 42513 246135 362514 415263 531642"]
 
 
 def pattern(values):
@@ -77,6 +80,20 @@ def check_draws(program, basis, length, listed):
     assert answers(program, basis, queries) == due, (basis, length)
 
 
+def check_statistics(program, basis, length, listed):
+    """How many members of a length, given as their lines, have each value of a statistic, and which have one value."""
+    queries, due = [], []
+    for name, statistic in STATISTICS.items():
+        values = [statistic([int(entry) for entry in word]) for _, word in listed]
+        bars = [f"{value}:{values.count(value)}" for value in sorted(set(values))]
+        queries.append(f"stat {name} {length}")
+        due.append(f"{queries[-1]} = {' '.join(bars) or 'none'}")
+        for value in range(max(values, default=0) + 2):
+            queries.append(f"pick {name} {value} {length}")
+            due += [f"{queries[-1]} ="] + [" ".join(row) for row, own in zip(listed, values) if own == value] + ["end"]
+    assert answers(program, basis, queries) == due, (basis, length)
+
+
 def text(word):
     return "".join(map(str, word))
 
@@ -109,9 +126,10 @@ def check_class(program, basis):
         for first in range(0, len(queries), 1000):
             assert answers(program, basis, queries[first:first + 1000]) == due[first:first + 1000], (basis, length)
         check_draws(program, basis, length, listed)
+        check_statistics(program, basis, length, listed)
     line = answers(program, basis, [f"counts {LONGEST}"])
     assert line == [f"counts {LONGEST} = {' '.join(map(str, counts))}"], basis
-    print(f"{basis}: lists, ranks, draws and counts to length {LONGEST} agree")
+    print(f"{basis}: lists, ranks, draws, statistics and counts to length {LONGEST} agree")
 
 
 def unranked(program, basis, length, ranks):
@@ -171,8 +189,17 @@ def check_counts(program):
         print(f"{basis}: counts to length 40 agree")
 
 
+def check_narayana(program):
+    """Of the permutations of length n that avoid 132, those with k descents are counted by Narayana's numbers."""
+    for n in range(1, 10):
+        bars = [f"{k}:{comb(n, k) * comb(n, k + 1) // n}" for k in range(n)]
+        assert answers(program, "132", [f"stat des {n}"]) == [f"stat des {n} = {' '.join(bars)}"], n
+    print("132: descents to length 9 are counted by Narayana's numbers")
+
+
 if __name__ == "__main__":
     for each in CLASSES:
         check_class(sys.argv[1], each)
         check_lists(sys.argv[1], each)
     check_counts(sys.argv[1])
+    check_narayana(sys.argv[1])
