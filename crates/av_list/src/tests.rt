@@ -1,5 +1,6 @@
 // Lists that are known.
 ghost use Rattle.std.specs.Prelude.{◌≡◌, ◌≤◌, IfOk, drop, take};
+ghost use Rattle.av_sys.specs.Terms.{IsWellFormed};
 ghost use Rattle.av_sys.specs.TreeLists.{members};
 ghost use Rattle.av_list.specs.Items.{items_from};
 
@@ -94,6 +95,27 @@ fn a_sieve_gives_what_is_kept_with_its_ranks(rt: HostRuntime) -> Result<(), Memo
         assert!(rt; sieve.next() == Some((0, word(&[1, 2, 3]))));
         assert!(rt; sieve.next() == Some((2, word(&[1, 2, 3]))));
         assert!(rt; sieve.next() == None);
+    } else {
+        assert!(rt; false);
+    }
+    Ok(())
+}
+
+// How many items come from a rank on of the trees of size 3, which are 8.
+fn count_from(alloc: Global, system: &System, from: u128) -> Result<usize, Memory>
+    requires { IsWellFormed system.now }
+{
+    let table = Table::new(alloc, system, 3)?;
+    Ok(first_items(alloc, system, &table, 3, from, 9)?.len())
+}
+
+#[test]
+fn a_list_ends_after_its_last_rank(rt: HostRuntime) -> Result<(), Memory> {
+    let system = binary(rt.alloc())?;
+    if system.check() {
+        for (from, many) in [(0, 8), (7, 1), (8, 0), (u128::MAX, 0)] {
+            assert_eq!(rt; count_from(rt.alloc(), &system, from)?, many);
+        }
     } else {
         assert!(rt; false);
     }
