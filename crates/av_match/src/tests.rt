@@ -79,6 +79,8 @@ fn minimal_words(rt: HostRuntime) -> Result<(), Memory> {
 fn maximal_words(rt: HostRuntime) -> Result<(), Memory> {
     let some = words(rt.alloc(), &[&[1, 3, 2], &[2, 1], &[1, 2], &[1, 2, 3]])?;
     assert!(rt; maximal(rt.alloc(), &some)? == words(rt.alloc(), &[&[1, 2, 3], &[1, 3, 2]])?);
+    let one = words(rt.alloc(), &[&[1], &[1]])?;
+    assert_eq!(rt; maximal(rt.alloc(), &one)?.len(), 0);
     Ok(())
 }
 

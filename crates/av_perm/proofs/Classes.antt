@@ -3,9 +3,9 @@ use Rattle.std.proofs.Common.{◌≡◌, ℕ, ◌↔◌, List, length, true, not
 use Rattle.std.proofs.lemmas.Bool.{and_parts, and_from}
 use Rattle.av_perm.specs.Word.{is_word}
 use Rattle.av_perm.specs.Contain.{contains}
-use Rattle.av_perm.specs.Class.{avoids_all, contains_all, is_in_class, minimal, maximal}
-use Rattle.av_perm.specs.Relations.{IsWord, AreWords, Contains, Avoids, InClass}
-use Rattle.av_perm.specs.Laws.{HasMinimal, HasMaximal}
+use Rattle.av_perm.specs.Class.{avoids_all, contains_all, is_in_class, is_in_class_with, minimal, maximal}
+use Rattle.av_perm.specs.Relations.{IsWord, AreWords, Contains, Avoids, InClass, InClassWith}
+use Rattle.av_perm.specs.Laws.{HasClassWith, HasMinimal, HasMaximal}
 use Rattle.av_perm.proofs.Membership.{Each}
 use Rattle.av_perm.proofs.Tests.{all_from, all_to, not_from, not_to}
 use Rattle.av_perm.proofs.Occurrences.{contains_from, contains_to}
@@ -36,6 +36,22 @@ class_from B σ e = let a = and_parts (is_word σ) (avoids_all B σ) e in record
 -- a word of the class passes its test
 pub class_to : (B : List (List ℕ)) (σ : List ℕ) → InClass B σ → is_in_class B σ ≡ true
 class_to B σ c = and_from (is_word σ) (avoids_all B σ) (word_to σ c.word) (avoids_to B σ c.avoids)
+
+-- a word of the class with required words
+pub class_with_from : (B R : List (List ℕ)) (σ : List ℕ) → is_in_class_with B R σ ≡ true → InClassWith B R σ
+class_with_from B R σ e =
+    let a = and_parts (is_in_class B σ) (contains_all R σ) e in record { member = class_from B σ a.0; contains = requires_from R σ a.1 }
+
+-- a word of the class with required words passes its test
+pub class_with_to : (B R : List (List ℕ)) (σ : List ℕ) → InClassWith B R σ → is_in_class_with B R σ ≡ true
+class_with_to B R σ c = and_from (is_in_class B σ) (contains_all R σ) (class_to B σ c.member) (requires_to R σ c.contains)
+
+-- the facts on it together
+pub class_with_holds : (B R : List (List ℕ)) (σ : List ℕ) → HasClassWith B R σ
+class_with_holds B R σ = record {
+  test = (class_with_from B R σ, class_with_to B R σ);
+  bare = (λ c. c.member, λ c. record { member = c; contains = λ τ i. absurd i });
+}
 
 -- a word that a word of the class contains is in the class
 pub class_down : (B : List (List ℕ)) (σ τ : List ℕ) → InClass B σ → IsWord τ → Contains σ τ → InClass B τ

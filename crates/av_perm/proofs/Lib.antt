@@ -10,6 +10,7 @@ pub mod Patterns
 pub mod Containment
 pub mod ShortlexLists
 pub mod MinimalWords
+pub mod TopWords
 pub mod Classes
 pub mod WordTests
 pub mod PermWords

@@ -8,14 +8,14 @@ use Rattle.std.proofs.lemmas.Cmp.{nat_list_cmp_total}
 use Rattle.av_perm.specs.Lists.{counting, before_each}
 use Rattle.av_perm.specs.Members.{In, Once, IsListOf, Ascending}
 use Rattle.av_perm.specs.Word.{arrangements, words}
-use Rattle.av_perm.specs.Class.{avoids_all, class_at}
-use Rattle.av_perm.specs.Relations.{at, IsOneToLength, InClassAt}
+use Rattle.av_perm.specs.Class.{avoids_all, contains_all, class_at, class_with_at}
+use Rattle.av_perm.specs.Relations.{at, IsOneToLength, InClassAt, InClassWithAt}
 use Rattle.av_perm.specs.Laws.{IsWordOf}
 use Rattle.av_perm.proofs.Membership.{In_at, at_In, In_flat_map, flat_map_In, In_filter, filter_In, In_before, before_In, In_counting, counting_In}
 use Rattle.av_perm.proofs.Tests.{not_from, not_to}
 use Rattle.av_perm.proofs.NoRepeats.{once_from_apart, apart_from_once}
 use Rattle.av_perm.proofs.Ascending.{once_from_ascending, ascending_arrangements, ascending_counting, ascending_filter}
-use Rattle.av_perm.proofs.Classes.{avoids_from, avoids_to}
+use Rattle.av_perm.proofs.Classes.{avoids_from, avoids_to, requires_from, requires_to}
 
 -- the numbers of the list other than x
 abbrev but : ℕ → List ℕ → List ℕ
@@ -108,4 +108,23 @@ class_list basis n h = record {
         (arrangement_in_words n w c.member.word.numbers c.long) (avoids_to basis w c.member.avoids),
   );
   once = once_from_ascending (slice_cmp nat_cmp) nat_list_cmp_total (class_at basis n) (class_ascending basis n);
+}
+
+-- those of a class with required words
+pub class_with_ascending : (basis required : List (List ℕ)) (n : ℕ) → Ascending (slice_cmp nat_cmp) (class_with_at basis required n)
+class_with_ascending basis required n = ascending_filter (slice_cmp nat_cmp) (contains_all required) (class_at basis n) (class_ascending basis n)
+
+-- the words of a class with required words of a length of at least 1
+pub class_with_list : (basis required : List (List ℕ)) (n : ℕ) → 1 ≤ n → IsListOf (InClassWithAt basis required n) (class_with_at basis required n)
+class_with_list basis required n h = record {
+  members = λ w. (
+    λ i.
+        let f = In_filter (contains_all required) (class_at basis n) w i in
+        let c = ((class_list basis n h).members w).0 f.0 in
+        record { member = record { member = c.member; contains = requires_from required w f.1 }; long = c.long },
+    λ c.
+        filter_In (contains_all required) (class_at basis n) w
+        (((class_list basis n h).members w).1 (record { member = c.member.member; long = c.long })) (requires_to required w c.member.contains),
+  );
+  once = once_from_ascending (slice_cmp nat_cmp) nat_list_cmp_total (class_with_at basis required n) (class_with_ascending basis required n);
 }

@@ -5,7 +5,7 @@ use Rattle.std.specs.declared.cmp.Ordering.TheVariants.{Less, Greater}
 use Rattle.av_perm.specs.Lists.{choices, all_lists, products, size_lists, counting}
 use Rattle.av_perm.specs.Word.{arrangements, words, is_word, fault_place, shortlex}
 use Rattle.av_perm.specs.Contain.{occurrences, contains, first_occurrence}
-use Rattle.av_perm.specs.Class.{minimal, maximal, class_at, in_shortlex}
+use Rattle.av_perm.specs.Class.{minimal, maximal, top, class_at, class_with_at, in_shortlex}
 use Rattle.av_perm.specs.Pattern.{pattern_of}
 use Rattle.av_perm.specs.Inflate.{inflate}
 use Rattle.av_perm.specs.Simple.{is_simple, is_sum_indecomposable, is_skew_indecomposable}
@@ -174,9 +174,25 @@ maximal_longest : maximal (w12 ∷ w213 ∷ w132 ∷ w2143 ∷ []) ≡ w2143 ∷
 unfolding opened
 maximal_longest = refl
 
+top_without_1 : top (w1 ∷ w1 ∷ []) ≡ []
+unfolding opened
+top_without_1 = refl
+
+top_longest : top (w1 ∷ w12 ∷ w213 ∷ w132 ∷ []) ≡ w132 ∷ w213 ∷ []
+unfolding opened
+top_longest = refl
+
 class_132_at_3 : class_at (w132 ∷ []) 3 ≡ w123 ∷ w213 ∷ w231 ∷ w312 ∷ w321 ∷ []
 unfolding opened
 class_132_at_3 = refl
+
+class_132_with_21 : class_with_at (w132 ∷ []) (w21 ∷ []) 3 ≡ w213 ∷ w231 ∷ w312 ∷ w321 ∷ []
+unfolding opened
+class_132_with_21 = refl
+
+counts_132_with_21 : map (λ n. length (class_with_at (w132 ∷ []) (w21 ∷ []) n)) (counting 1 5) ≡ 0 ∷ 1 ∷ 4 ∷ 13 ∷ 41 ∷ []
+unfolding opened
+counts_132_with_21 = refl
 
 counts_132 : map (λ n. length (class_at (w132 ∷ []) n)) (counting 1 5) ≡ 1 ∷ 2 ∷ 5 ∷ 14 ∷ 42 ∷ []
 unfolding opened

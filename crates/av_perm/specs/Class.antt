@@ -1,4 +1,4 @@
--- Classes of words, given by the words that they avoid: tests and lists.
+-- Classes of words, given by the words that they avoid, and those with required words: tests and lists.
 use Rattle.std.specs.Prelude.{ℕ, Bool, not, ◌&&◌, ◌||◌, List, [], ◌∷◌, filter}
 use Rattle.std.specs.List.{list_all}
 use Rattle.std.specs.declared.cmp.Ordering.{Ordering}
@@ -23,6 +23,14 @@ is_in_class basis w = is_word w && avoids_all basis w
 abbrev pub class_at : List (List ℕ) → ℕ → List (List ℕ)
 class_at basis n = filter (avoids_all basis) (words n)
 
+-- the word is one of the class that contains each required word
+abbrev pub is_in_class_with : List (List ℕ) → List (List ℕ) → List ℕ → Bool
+is_in_class_with basis required w = is_in_class basis w && contains_all required w
+
+-- the words of length n of the class with required words, in lexicographic order
+abbrev pub class_with_at : List (List ℕ) → List (List ℕ) → ℕ → List (List ℕ)
+class_with_at basis required n = filter (contains_all required) (class_at basis n)
+
 -- by how w compares with the head v of a list, where `more` is w put into its tail
 abbrev pub insert_by : Ordering → List ℕ → List ℕ → List (List ℕ) → List (List ℕ) → List (List ℕ)
 insert_by Less w v vs more = w ∷ v ∷ vs
@@ -46,3 +54,8 @@ minimal ws = in_shortlex (filter (λ w. list_all (λ v. same v w || not (contain
 -- of a list of words: those that no other different word of it contains, each once, in shortlex order
 abbrev pub maximal : List (List ℕ) → List (List ℕ)
 maximal ws = in_shortlex (filter (λ w. list_all (λ v. same v w || not (contains v w)) ws) ws)
+
+-- of a list of words: those other than the word 1 that no other different word of it contains, each once, in shortlex order;
+-- every word contains the word 1
+abbrev pub top : List (List ℕ) → List (List ℕ)
+top ws = filter (λ w. not (same (1 ∷ []) w)) (maximal ws)

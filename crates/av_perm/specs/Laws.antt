@@ -1,12 +1,12 @@
 -- The laws of words: each test and each list that computes holds exactly what the textbook says.
-use Rattle.std.specs.Prelude.{◌≡◌, ℕ, suc, ◌<◌, ◌≤◌, ◌↔◌, List, length, true, Some, None, slice_get, sum_by}
+use Rattle.std.specs.Prelude.{◌≡◌, ℕ, suc, ◌<◌, ◌≤◌, ◌≢◌, ◌↔◌, List, [], ◌∷◌, length, true, Some, None, slice_get, sum_by}
 use Rattle.std.specs.Ordering.{nat_cmp}
 use Rattle.std.specs.Cmp.Lexicographic.{slice_cmp}
 use Rattle.av_perm.specs.Members.{In, Once, IsListOf, Ascending}
 use Rattle.av_perm.specs.Word.{is_word, shortlex, words}
 use Rattle.av_perm.specs.Contain.{contains, occurrences, first_occurrence}
-use Rattle.av_perm.specs.Class.{is_in_class, class_at, minimal, maximal}
-use Rattle.av_perm.specs.Relations.{IsWord, AreWords, OccursAt, Contains, Avoids, InClass, InClassAt, SameOrder, pattern_of, IsOneToLength, IsSimple, IsSumIndecomposable, IsSkewIndecomposable, AreBlocks, inflate}
+use Rattle.av_perm.specs.Class.{is_in_class, is_in_class_with, class_at, class_with_at, minimal, maximal, top}
+use Rattle.av_perm.specs.Relations.{IsWord, AreWords, OccursAt, Contains, Avoids, InClass, InClassAt, InClassWith, InClassWithAt, SameOrder, pattern_of, IsOneToLength, IsSimple, IsSumIndecomposable, IsSkewIndecomposable, AreBlocks, inflate}
 use Rattle.av_perm.specs.Simple.{is_simple, is_sum_indecomposable, is_skew_indecomposable}
 use Rattle.av_perm.specs.Gap.{simples, simples_below, IsSettled, IsUnsettled}
 
@@ -35,6 +35,15 @@ OccurrencesLaw = (σ τ : List ℕ) → HasOccurrences σ τ
 -- the test for a class tests it
 abbrev pub ClassLaw : Type 0
 ClassLaw = (basis : List (List ℕ)) (w : List ℕ) → (is_in_class basis w ≡ true) ↔ InClass basis w
+
+-- the test for a class with required words tests it, and without required words it is the class
+pub record HasClassWith (basis required : List (List ℕ)) (w : List ℕ) : Type 0 where
+  pub test : (is_in_class_with basis required w ≡ true) ↔ InClassWith basis required w
+  pub bare : InClassWith basis [] w ↔ InClass basis w
+
+-- so of every basis, required words and word
+abbrev pub ClassWithLaw : Type 0
+ClassWithLaw = (basis required : List (List ℕ)) (w : List ℕ) → HasClassWith basis required w
 
 -- a word of a list that contains no other different word of it
 pub record IsMinimalIn (ws : List (List ℕ)) (w : List ℕ) : Type 0 where
@@ -69,6 +78,23 @@ pub record HasMaximal (required : List (List ℕ)) : Type 0 where
 abbrev pub MaximalLaw : Type 0
 MaximalLaw = (required : List (List ℕ)) → HasMaximal required
 
+-- a word of a list other than the word 1 that is contained in no other different word of it
+pub record IsTopIn (ws : List (List ℕ)) (w : List ℕ) : Type 0 where
+  pub member : In w ws
+  pub other : w ≢ 1 ∷ []
+  pub greatest : (v : List ℕ) → In v ws → Contains v w → v ≡ w
+
+-- the list of these holds each of them once, in shortlex order, and is its own; of words, they require of a word what all require
+pub record HasTop (required : List (List ℕ)) : Type 0 where
+  pub listed : IsListOf (IsTopIn required) (top required)
+  pub ascending : Ascending shortlex (top required)
+  pub again : top (top required) ≡ top required
+  pub same_class : AreWords required → (basis : List (List ℕ)) (σ : List ℕ) → InClassWith basis (top required) σ ↔ InClassWith basis required σ
+
+-- so of every list
+abbrev pub TopLaw : Type 0
+TopLaw = (required : List (List ℕ)) → HasTop required
+
 -- a word of length n
 pub record IsWordOf (n : ℕ) (w : List ℕ) : Type 0 where
   pub word : IsWord w
@@ -91,6 +117,15 @@ pub record HasClassAt (basis : List (List ℕ)) (n : ℕ) : Type 0 where
 -- so of every class and length of at least 1
 abbrev pub ClassAtLaw : Type 0
 ClassAtLaw = (basis : List (List ℕ)) (n : ℕ) → 1 ≤ n → HasClassAt basis n
+
+-- the same for the words of a class with required words
+pub record HasClassWithAt (basis required : List (List ℕ)) (n : ℕ) : Type 0 where
+  pub listed : IsListOf (InClassWithAt basis required n) (class_with_at basis required n)
+  pub ascending : Ascending (slice_cmp nat_cmp) (class_with_at basis required n)
+
+-- so of every class, required words and length of at least 1
+abbrev pub ClassWithAtLaw : Type 0
+ClassWithAtLaw = (basis required : List (List ℕ)) (n : ℕ) → 1 ≤ n → HasClassWithAt basis required n
 
 -- `π` is the word in the same relative order as the numbers
 pub record IsPatternOf (xs π : List ℕ) : Type 0 where

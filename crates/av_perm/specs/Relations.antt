@@ -57,6 +57,16 @@ pub record InClassAt (basis : List (List ℕ)) (n : ℕ) (σ : List ℕ) : Type 
   pub member : InClass basis σ
   pub long : length σ ≡ n
 
+-- a word of the class with required words, Cl(basis, required): one of Av(basis) that contains each of them
+pub record InClassWith (basis required : List (List ℕ)) (σ : List ℕ) : Type 0 where
+  pub member : InClass basis σ
+  pub contains : (τ : List ℕ) → In τ required → Contains σ τ
+
+-- one of length n
+pub record InClassWithAt (basis required : List (List ℕ)) (n : ℕ) (σ : List ℕ) : Type 0 where
+  pub member : InClassWith basis required σ
+  pub long : length σ ≡ n
+
 -- two lists of numbers lie in the same relative order
 pub record SameOrder (xs ys : List ℕ) : Type 0 where
   pub count : length xs ≡ length ys

@@ -2,7 +2,7 @@
 ghost use Rattle.av_perm.specs.Decompose.{OneDecomposition, SomeDecomposition};
 ghost use Rattle.av_perm.specs.Parts.{PartsLaw};
 ghost use Rattle.av_perm.specs.StatLaws.{StatisticsLaw};
-ghost use Rattle.av_perm.specs.Laws.{WordLaw, ContainsLaw, OccurrencesLaw, ClassLaw, MinimalLaw, MaximalLaw, WordsLaw, ClassAtLaw, PatternLaw, SimpleLaw, SumLaw, SkewLaw, SimplesLaw, SimplesBelowLaw, GapLaw, InflationLaw};
+ghost use Rattle.av_perm.specs.Laws.{WordLaw, ContainsLaw, OccurrencesLaw, ClassLaw, ClassWithLaw, MinimalLaw, MaximalLaw, TopLaw, WordsLaw, ClassAtLaw, ClassWithAtLaw, PatternLaw, SimpleLaw, SumLaw, SkewLaw, SimplesLaw, SimplesBelowLaw, GapLaw, InflationLaw};
 
 /// The test for words passes exactly the words: the lists of the numbers 1 to n, each once, for an n of at least 1.
 pub fn word_law()
@@ -26,6 +26,12 @@ pub fn class_law()
     ensures { ClassLaw }
 {}
 
+/// The test for the class of a basis with required words passes exactly the words of the class that contain each required
+/// word. Without required words it is the class itself.
+pub fn class_with_law()
+    ensures { ClassWithLaw }
+{}
+
 /// `minimal` lists the words of a list that contain no other different word of it, each once, in shortlex order. They are
 /// their own minimal words. A list of words and its minimal words have the same class.
 pub fn minimal_law()
@@ -38,6 +44,12 @@ pub fn maximal_law()
     ensures { MaximalLaw }
 {}
 
+/// `top` lists the words of a list, other than the word 1, that are contained in no other different word of it, each once, in
+/// shortlex order. They are their own. Of a list of words, the words of a class that contain these contain all.
+pub fn top_law()
+    ensures { TopLaw }
+{}
+
 /// The list of the words of a length, which is at least 1, holds exactly them, each once, in lexicographic order.
 pub fn words_law()
     ensures { WordsLaw }
@@ -46,6 +58,12 @@ pub fn words_law()
 /// The list of the words of a class of a length, which is at least 1, holds exactly them, each once, in lexicographic order.
 pub fn class_at_law()
     ensures { ClassAtLaw }
+{}
+
+/// The list of the words of a class with required words of a length, which is at least 1, holds exactly them, each once, in
+/// lexicographic order.
+pub fn class_with_at_law()
+    ensures { ClassWithAtLaw }
 {}
 
 /// The pattern of one or more different numbers is the word in their relative order, and the only one. A word is its own
