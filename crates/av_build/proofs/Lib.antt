@@ -7,6 +7,7 @@ pub mod NamesOver
 pub mod TermsStand
 pub mod Growing
 pub mod GrownSizes
+pub mod BareSystems
 pub mod CanonicalForm
 pub mod ShortNames
 pub mod PartialSteps
@@ -19,4 +20,19 @@ pub mod TermLaws
 pub mod NameSystems
 pub mod ExactAlways
 pub mod Growth
+pub mod ListPlaces
+pub mod MarkOrder
+pub mod AliveMarks
+pub mod MarkRounds
+pub mod FoundNumbers
+pub mod KeptEquations
+pub mod TermValues
+pub mod LeanValues
+pub mod TreeTwins
+pub mod LeanForm
+pub mod LeanKeeps
+pub mod LeanExact
+pub mod LeanNumbering
+pub mod LeanWorked
+pub mod PruneSteps
 pub mod Worked

@@ -13,12 +13,13 @@ use Rattle.av_sys.specs.declared.terms.Term.TheVariants.{Point, Node}
 use Rattle.av_sys.specs.declared.terms.Equation.{Equation}
 use Rattle.av_sys.specs.declared.terms.System.{System}
 use Rattle.av_sys.specs.Names.{Means}
-use Rattle.av_sys.specs.Exact.{MeansOf, MeansAt}
+use Rattle.av_sys.specs.Exact.{MeansOf, MeansAt, NamedUpTo}
 use Rattle.av_build.specs.Drafts.{Draft, point, node, drafts}
 use Rattle.av_build.specs.Canonical.{first_name}
 use Rattle.av_build.specs.Laws.{IsNameOver, HoldsSimples, NamedFromLaw, NamedLaw}
 use Rattle.av_build.proofs.RootedTerms.{DraftCases, draft_cases, root_draft_In}
 use Rattle.av_build.proofs.NamesOver.{first_name_ok}
+use Rattle.av_build.proofs.BareSystems.{void_none, bare_named, class_cases}
 use Rattle.av_build.proofs.Pointwise.{same_length, beside, before, flipped, chained}
 use Rattle.av_build.proofs.TermsStand.{Numbered, Stands}
 use Rattle.av_build.proofs.Growing.{Canonical, canonical, NameAt, get_In}
@@ -151,6 +152,9 @@ named_from_law basis roots name limit m S ok c h =
     let canon = canonical basis roots name limit S ok c in
     right_up_to S (name_right basis roots name S canon h.simple h.once) (λ w. length w ≤ m) (short_served basis roots name S canon h.simple m h) m (λ u w k l. l)
 
--- of a class
+-- of a class with required words
 pub named_law : NamedLaw
-named_law basis roots limit m S words = named_from_law basis roots (first_name basis) limit m S (first_name_ok basis words)
+named_law basis required roots limit m S words wanted c h = elim (class_cases roots (first_name basis required) limit S c) [
+  | inl v ↦ subst (λ (T : System). NamedUpTo T m) (sym v.1) (bare_named (first_name basis required) m (void_none (first_name basis required) v.0))
+  | inr d ↦ named_from_law basis roots (first_name basis required) limit m S (first_name_ok basis required words wanted) d h
+]

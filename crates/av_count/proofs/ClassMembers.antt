@@ -3,11 +3,11 @@ use Rattle.std.proofs.Common.{◌≡◌, ℕ, zero, suc, ◌<◌, ◌≤◌, inl
 use Rattle.std.proofs.lemmas.List.{length-map}
 use Rattle.std.proofs.lemmas.Option.{slice_get-get_or}
 use Rattle.av_perm.specs.Members.{Once, IsListOf}
-use Rattle.av_perm.specs.Class.{class_at}
-use Rattle.av_perm.specs.Relations.{InClassAt}
+use Rattle.av_perm.specs.Class.{class_with_at}
+use Rattle.av_perm.specs.Relations.{InClassWithAt}
 use Rattle.av_perm.proofs.Membership.{In, In_at, at_In, In_map, map_In}
 use Rattle.av_perm.proofs.Pigeons.{pigeons_by}
-use Rattle.av_perm.proofs.WordLists.{class_list}
+use Rattle.av_perm.proofs.WordLists.{class_with_list}
 use Rattle.av_sys.specs.declared.terms.System.{System}
 use Rattle.av_sys.specs.Terms.{IsWellFormed}
 use Rattle.av_sys.specs.Trees.{size, value}
@@ -49,9 +49,9 @@ once_map_on f (x ∷ xs) k o = (
 )
 
 -- the words of the trees are those of the class
-members_listed : (S : System) (basis : List (List ℕ)) (n : ℕ) → IsWellFormed S → Exact S basis → IsListOf (InClassAt basis n) (members S n)
+members_listed : (S : System) (basis required : List (List ℕ)) (n : ℕ) → IsWellFormed S → Exact S basis required → IsListOf (InClassWithAt basis required n) (members S n)
 unfolding members members_at
-members_listed S basis n w h =
+members_listed S basis required n w h =
     let l = (trees_law S 0 n w).listed in
     record {
       members = λ σ. (
@@ -59,7 +59,7 @@ members_listed S basis n w h =
             let r = In_map (value S 0) (trees S 0 n) σ i in
             let f = (l.members r.0).0 r.1 in
             let x = h.sound r.0 f.tree in
-            subst (λ k. InClassAt basis k σ) f.sized (subst (InClassAt basis (size r.0)) (sym r.2) x),
+            subst (λ k. InClassWithAt basis required k σ) f.sized (subst (InClassWithAt basis required (size r.0)) (sym r.2) x),
         λ c.
             let r = h.complete σ c.member in
             let t : IsTreeOfSize S 0 n r.0 = record { tree = r.1; sized = r.2 ∙ c.long } in
@@ -80,6 +80,6 @@ count_members_of S n = sym (length-map (trees S 0 n) (value S 0))
 
 -- so the law of counts
 pub members_law : MembersLaw
-members_law S basis n w h one =
-    let l = members_listed S basis n w h in
-    record { listed = l; counted = count_members_of S n ∙ once_as_long (InClassAt basis n) (members S n) (class_at basis n) l (class_list basis n one) }
+members_law S basis required n w h one =
+    let l = members_listed S basis required n w h in
+    record { listed = l; counted = count_members_of S n ∙ once_as_long (InClassWithAt basis required n) (members S n) (class_with_at basis required n) l (class_with_list basis required n one) }

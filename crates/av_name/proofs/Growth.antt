@@ -3,11 +3,13 @@ use Rattle.std.proofs.Common.{◌≡◌, ℕ, ◌≤◌, inl, inr, ◌↔◌, Li
 use Rattle.std.proofs.lemmas.Bool.{or_cases, or_left, or_right}
 use Rattle.av_perm.specs.Members.{In}
 use Rattle.av_perm.specs.Contain.{contains}
+use Rattle.av_perm.specs.Class.{maximal, top}
 use Rattle.av_perm.specs.Relations.{IsWord, Contains, Avoids}
 use Rattle.av_perm.proofs.Membership.{Each}
 use Rattle.av_perm.proofs.Occurrences.{contains_from, contains_to}
 use Rattle.av_perm.proofs.Containment.{contains_trans}
 use Rattle.av_perm.proofs.MinimalWords.{words_each, minimal_is, maximal_is, minimal_again, maximal_again, has_minimal, has_maximal}
+use Rattle.av_perm.proofs.TopWords.{top_maximal}
 use Rattle.av_sys.specs.declared.names.Constraint.{Constraint}
 use Rattle.av_sys.specs.Names.{Meets}
 use Rattle.av_name.specs.declared.constraints.Known.TheVariants.{Open}
@@ -41,6 +43,12 @@ avoid_old c p a i = ((minimal_is (p ∷ c.avoid) a).0 i).member
 -- a word that is kept is the pattern or was there
 require_old : (c : Constraint) (p r : List ℕ) → In r (add_require c p).require → In r (p ∷ c.require)
 require_old c p r i = ((maximal_is (p ∷ c.require) r).0 i).member
+
+-- an open pattern has two entries or more, so the word 1 isn't among the maximal words beside it
+pub required_top : (c : Constraint) (p : List ℕ) → IsWord p → answer c p ≡ Open → top (p ∷ c.require) ≡ maximal (p ∷ c.require)
+required_top c p g o =
+    let no_one : length p ≡ 1 → ⊥ = λ e. (open_is c p o).0 (inl e) in
+    top_maximal (p ∷ c.require) p (inl refl) (omega (arith, g.filled, no_one))
 
 -- two tests of which each passes where the other does
 same_tests : (a b : Bool) → (a ≡ true → b ≡ true) → (b ≡ true → a ≡ true) → a ≡ b

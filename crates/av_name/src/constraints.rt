@@ -85,6 +85,8 @@ pub fn add_require(alloc: Global, c: &Constraint, p: &Perm) -> Result<Constraint
     requires { answer c.now p.now ≡ Known.Open }
     ensures { IfOk result (λ d. d ≡ add_require c.now p.now) }
 {
+    // Its length tells that it has entries.
+    let _length = p.len();
     Ok(Constraint {
         avoid: c.avoid.copy(alloc)?,
         require: maximal(alloc, &joined(alloc, p, &c.require)?)?,

@@ -1,22 +1,22 @@
 -- When a system describes a class, and when its equations generate what their names say.
 use Rattle.std.specs.Prelude.{◌≡◌, ℕ, ◌≤◌, List, length, slice_get, Option, Some, None}
-use Rattle.av_perm.specs.Relations.{InClass, InClassAt}
+use Rattle.av_perm.specs.Relations.{InClassWith, InClassWithAt}
 use Rattle.av_sys.specs.declared.terms.Equation.{Equation}
 use Rattle.av_sys.specs.declared.terms.System.{System}
 use Rattle.av_sys.specs.Names.{Means}
 use Rattle.av_sys.specs.Trees.{Tree, IsTree, size, value}
 
--- the values of the derivation trees of equation 0 of each size are words of the class of that length, each word of the class
--- is the value of one, and no two of these trees have the same value
-pub record Exact (S : System) (basis : List (List ℕ)) : Type 0 where
-  pub sound : (T : Tree) → IsTree S 0 T → InClassAt basis (size T) (value S 0 T)
-  pub complete : (σ : List ℕ) → InClass basis σ → (T : Tree) × IsTree S 0 T × (size T ≡ length σ) × (value S 0 T ≡ σ)
+-- the values of the derivation trees of equation 0 of each size are words of that length that avoid the basis and contain the
+-- required words, each such word is the value of one, and no two of these trees have the same value
+pub record Exact (S : System) (basis required : List (List ℕ)) : Type 0 where
+  pub sound : (T : Tree) → IsTree S 0 T → InClassWithAt basis required (size T) (value S 0 T)
+  pub complete : (σ : List ℕ) → InClassWith basis required σ → (T : Tree) × IsTree S 0 T × (size T ≡ length σ) × (value S 0 T ≡ σ)
   pub once : (T U : Tree) → IsTree S 0 T → IsTree S 0 U → value S 0 T ≡ value S 0 U → T ≡ U
 
 -- the same for trees of size at most m and words of length at most m
-pub record ExactUpTo (S : System) (basis : List (List ℕ)) (m : ℕ) : Type 0 where
-  pub sound : (T : Tree) → IsTree S 0 T → size T ≤ m → InClassAt basis (size T) (value S 0 T)
-  pub complete : (σ : List ℕ) → InClass basis σ → length σ ≤ m → (T : Tree) × IsTree S 0 T × (size T ≡ length σ) × (value S 0 T ≡ σ)
+pub record ExactUpTo (S : System) (basis required : List (List ℕ)) (m : ℕ) : Type 0 where
+  pub sound : (T : Tree) → IsTree S 0 T → size T ≤ m → InClassWithAt basis required (size T) (value S 0 T)
+  pub complete : (σ : List ℕ) → InClassWith basis required σ → length σ ≤ m → (T : Tree) × IsTree S 0 T × (size T ≡ length σ) × (value S 0 T ≡ σ)
   pub once : (T U : Tree) → IsTree S 0 T → IsTree S 0 U → size T ≤ m → size U ≤ m → value S 0 T ≡ value S 0 U → T ≡ U
 
 -- the word means the name of the equation, if there is such an equation
