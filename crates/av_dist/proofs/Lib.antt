@@ -1,0 +1,21 @@
+-- Statistics of inflations, rows and their products, the totals of nodes, and distributions.
+pub mod HowOften
+pub mod InflationPieces
+pub mod InflationInversions
+pub mod InflationDescents
+pub mod InflationLaws
+pub mod CrossingSteps
+pub mod RowProducts
+pub mod AddedRows
+pub mod AddedMultiples
+pub mod SumProducts
+pub mod NodeWords
+pub mod MemberStatistics
+pub mod FewTrees
+pub mod FewWords
+pub mod TotalSteps
+pub mod NextChild
+pub mod TermRows
+pub mod HeldLevels
+pub mod DistributionBars
+pub mod DistributionLaws

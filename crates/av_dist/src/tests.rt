@@ -1,0 +1,15 @@
+// The bars of a distribution.
+use crate::{DistBar, DistBars};
+use av_perm::Memory;
+
+#[test]
+fn bars_are_kept_in_order(rt: HostRuntime) -> Result<(), Memory> {
+    let mut bars = DistBars::empty(rt.alloc());
+    assert_eq!(rt; bars.len(), 0);
+    bars.push(DistBar { value: 0, count: 1 })?;
+    bars.push(DistBar { value: 2, count: 5 })?;
+    assert_eq!(rt; bars.len(), 2);
+    assert!(rt; *bars.get(1) == DistBar { value: 2, count: 5 });
+    assert!(rt; bars.as_slice()[0] == DistBar { value: 0, count: 1 });
+    Ok(())
+}
