@@ -3,12 +3,14 @@ use Rattle.std.proofs.Common.{◌≡◌, ◌-◌, ◌^◌, refl, arith, Ok}
 use Rattle.av_perm.specs.declared.StatKind.{StatKind}
 use Rattle.av_perm.specs.declared.StatKind.TheVariants as stat
 use Rattle.av_perm.specs.declared.limits.TheConstants.{MAX_LENGTH, MAX_STATISTIC}
-use Rattle.av_text.specs.declared.limits.TheConstants.{MAX_LISTED, MAX_DRAWN, MAX_STATISTIC_LENGTH}
+use Rattle.av_text.specs.declared.limits.TheConstants.{MAX_LISTED, MAX_DRAWN, MAX_STATISTIC_LENGTH, MAX_DISTRIBUTION_LENGTH}
+use Rattle.av_text.specs.declared.queries.DistKind.{DistKind}
+use Rattle.av_text.specs.declared.queries.DistKind.TheVariants as dist
 use Rattle.av_text.specs.declared.queries.Query.{Query}
 use Rattle.av_text.specs.declared.queries.Query.TheVariants as query
 use Rattle.av_text.specs.declared.says.Says.TheVariants.{Asks}
 use Rattle.av_text.specs.declared.says.Seen.{Seen}
-use Rattle.av_text.specs.Queries.{form_named, statistic_name, statistic_named, statistic_in, query_with_one, query_with_two, query_with_three, query_with_four, query_with_five, query_with, query_of, IsInRange}
+use Rattle.av_text.specs.Queries.{form_named, statistic_name, statistic_named, statistic_in, stat_kind, dist_kind_name, dist_kind_named, dist_kind_in, query_with_one, query_with_two, query_with_three, query_with_four, query_with_five, query_with, query_of, IsInRange}
 use Rattle.av_text.specs.Read.{tokens_said, line_said}
 use Rattle.av_print.specs.Text.{query_tokens, query_text}
 use Rattle.av_print.proofs.Tokens.{IsToken, AreTokens, spaced_allowed, spaced_tokens}
@@ -27,6 +29,11 @@ statistic_said stat.Inv = refl
 statistic_said stat.Des = refl
 statistic_said stat.Lrm = refl
 
+dist_kind_said : (t : DistKind) → dist_kind_in (dist_kind_name t) ≡ Ok t
+unfolding dist_kind_named
+dist_kind_said dist.Inv = refl
+dist_kind_said dist.Des = refl
+
 -- the tokens of a query are tokens
 tokens_are : (q : Query) → IsInRange q → AreTokens (query_tokens q)
 unfolding query_tokens
@@ -44,6 +51,7 @@ tokens_are (query.DrawStat t n s k) r =
 tokens_are (query.Stat t n) r = (record { filled = refl; plain = refl }, (statistic_token t, (number_token n (omega arith), tt)))
 tokens_are (query.Pick t v n) r =
     (record { filled = refl; plain = refl }, (statistic_token t, (number_token v (omega arith), (number_token n (omega arith), tt))))
+tokens_are (query.Dist t n) r = (record { filled = refl; plain = refl }, (statistic_token (stat_kind t), (number_token n (omega arith), tt)))
 
 -- and read as those of a line they ask it
 tokens_ask : (seen : Seen) (q : Query) → IsInRange q → tokens_said seen (query_tokens q) ≡ Ok (Asks q)
@@ -63,6 +71,7 @@ tokens_ask seen (query.DrawStat t n s k) r =
 tokens_ask seen (query.Stat t n) r = rw (statistic_said t, number_said 1 MAX_STATISTIC_LENGTH n r.0 r.1 (omega arith)) refl
 tokens_ask seen (query.Pick t v n) r =
     rw (statistic_said t, number_said 0 MAX_STATISTIC v (omega arith) r.0 (omega arith), number_said 1 MAX_STATISTIC_LENGTH n r.1.0 r.1.1 (omega arith)) refl
+tokens_ask seen (query.Dist t n) r = rw (dist_kind_said t, number_said 1 MAX_DISTRIBUTION_LENGTH n r.0 r.1 (omega arith)) refl
 
 -- its canonical text, as a line, asks it
 pub query_text_read : (seen : Seen) (q : Query) → IsInRange q → line_said seen (query_text q) ≡ Ok (Asks q)

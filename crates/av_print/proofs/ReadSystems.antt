@@ -20,7 +20,7 @@ use Rattle.av_text.specs.Lines.{is_line_feed}
 use Rattle.av_print.specs.Text.{word_text, words_text, root_text}
 use Rattle.av_print.specs.Systems.{number_text, children_text, term_text, terms_text, sign_text, name_text, equation_text, equations_text, terms_count, counts_text, system_text}
 use Rattle.av_print.specs.Laws.{SystemTextLaw}
-use Rattle.av_print.proofs.UniqueReading.{Begins, Any, IsReadOff, AreSome, AreSeparated, IsWritable, begins_apart, begins_wider, bytes_apart, cut_once, is_no_digit, numeral_free, number_read, joined_read, separated}
+use Rattle.av_print.proofs.UniqueReading.{Begins, Any, IsReadOff, AreSome, AreSeparated, IsWritable, begins_apart, begins_wider, bytes_apart, cut_once, is_no_digit, numeral_free, number_read, joined_read, separated, numeral_once}
 use Rattle.av_print.proofs.ReadWords.{AreShortWords, perms_short, IsShortWord, FollowsWords, is_no_word_byte, is_root_byte, root_read, root_begins, words_read}
 
 -- the number of an equation is read off before a byte that is no digit
@@ -235,18 +235,26 @@ equations_read k (d ∷ ds) (e ∷ es) p q is =
     let rest = equations_read (suc k) ds es (λ x i. p x (inr i)) (λ x i. q x (inr i)) first.1 in
     (λ i. first.0 i ∷ rest i)
 
--- the first line, with what follows
-counts_before : (m n : ℕ) (u : List ℕ) → counts_text m n ++ u ≡ codes "system 1 equations " ++ (decimal m ++ (codes " terms " ++ (decimal n ++ (codes "\n" ++ u))))
-unfolding counts_text
-counts_before m n u = group_of_five (codes "system 1 equations ") (decimal m) (codes " terms ") (decimal n) (codes "\n") u
+-- seven texts before another
+group_of_seven : (a b c d e f g u : List ℕ) → (a ++ (b ++ (c ++ (d ++ (e ++ (f ++ g)))))) ++ u ≡ a ++ (b ++ (c ++ (d ++ (e ++ (f ++ (g ++ u))))))
+group_of_seven a b c d e f g u = simp append_assoc
 
--- what follows the first line is known
-after_counts : (m n k l : ℕ) (u v : List ℕ) → counts_text m n ++ u ≡ counts_text k l ++ v → u ≡ v
-after_counts m n k l u v e =
-    let whole = append_cancel_left (codes "system 1 equations ") _ _ (sym (counts_before m n u) ∙ e ∙ counts_before k l v) in
-    let equations = cut_once is_no_digit (decimal m) (decimal k) (codes " terms " ++ (decimal n ++ (codes "\n" ++ u))) (codes " terms " ++ (decimal l ++ (codes "\n" ++ v))) (numeral_free m) (numeral_free k) refl refl whole in
+-- the first line, with what follows
+counts_before : (x m n : ℕ) (u : List ℕ)
+    → counts_text x m n ++ u ≡ codes "system " ++ (decimal x ++ (codes " equations " ++ (decimal m ++ (codes " terms " ++ (decimal n ++ (codes "\n" ++ u))))))
+unfolding counts_text
+counts_before x m n u = group_of_seven (codes "system ") (decimal x) (codes " equations ") (decimal m) (codes " terms ") (decimal n) (codes "\n") u
+
+-- the version, and what follows the first line, are known
+after_counts : (x m n y k l : ℕ) (u v : List ℕ) → counts_text x m n ++ u ≡ counts_text y k l ++ v → (decimal x ≡ decimal y) × (u ≡ v)
+after_counts x m n y k l u v e =
+    let whole = append_cancel_left (codes "system ") _ _ (sym (counts_before x m n u) ∙ e ∙ counts_before y k l v) in
+    let version = cut_once is_no_digit (decimal x) (decimal y) (codes " equations " ++ (decimal m ++ (codes " terms " ++ (decimal n ++ (codes "\n" ++ u)))))
+    (codes " equations " ++ (decimal k ++ (codes " terms " ++ (decimal l ++ (codes "\n" ++ v))))) (numeral_free x) (numeral_free y) refl refl whole in
+    let after = append_cancel_left (codes " equations ") _ _ version.1 in
+    let equations = cut_once is_no_digit (decimal m) (decimal k) (codes " terms " ++ (decimal n ++ (codes "\n" ++ u))) (codes " terms " ++ (decimal l ++ (codes "\n" ++ v))) (numeral_free m) (numeral_free k) refl refl after in
     let terms = cut_once is_no_digit (decimal n) (decimal l) (codes "\n" ++ u) (codes "\n" ++ v) (numeral_free n) (numeral_free l) refl refl (append_cancel_left (codes " terms ") _ _ equations.1) in
-    append_cancel_left (codes "\n") u v terms.1
+    (version.0, append_cancel_left (codes "\n") u v terms.1)
 
 -- the equations of a system can be read
 system_equations : (S : System) → IsWellFormed S → AreNamedByWords S → Each IsEquation S.equations
@@ -258,10 +266,10 @@ system_equations S formed named e i =
       terms = λ t j. some_term (length S.equations) t formed.few (formed.terms e t i j);
     }
 
--- two different systems have different texts
+-- two different pairs of a version and a system have different texts
 pub system_text_once : SystemTextLaw
 unfolding system_text
-system_text_once S T formed_S formed_T named_S named_T e =
-    let rest = after_counts (length S.equations) (terms_count S.equations) (length T.equations) (terms_count T.equations) _ _ e in
-    let same = equations_read 0 S.equations T.equations (system_equations S formed_S named_S) (system_equations T formed_T named_T) rest in
-    (λ i. record { equations = same i })
+system_text_once m n S T small_m small_n formed_S formed_T named_S named_T e =
+    let rest = after_counts m (length S.equations) (terms_count S.equations) n (length T.equations) (terms_count T.equations) _ _ e in
+    let same = equations_read 0 S.equations T.equations (system_equations S formed_S named_S) (system_equations T formed_T named_T) rest.1 in
+    (numeral_once m n (omega arith) (omega arith) rest.0, λ i. record { equations = same i })

@@ -12,7 +12,7 @@ use Rattle.av_perm.proofs.Membership.{Each, at_In}
 use Rattle.av_perm.proofs.MinimalWords.{words_each}
 use Rattle.av_perm.proofs.PermWords.{perm_word, perm_short}
 use Rattle.av_text.specs.Words.{is_comma}
-use Rattle.av_print.specs.Text.{word_text, words_text, root_text}
+use Rattle.av_print.specs.Text.{joined_or_none, word_text, words_text, root_text}
 use Rattle.av_print.proofs.UniqueReading.{Begins, Free, Any, IsReadOff, AreSome, AreSeparated, IsWritable, begins_apart, begins_wider, cut_once, free_append, is_no_digit, numeral_free, number_read, number_begins, joined_read, separated}
 
 -- a word whose entries can be written
@@ -161,7 +161,7 @@ none_apart w ws u v p e = begins_apart is_ascii_digit _ (codes "none" ++ u) (wor
 
 -- a list of words is read off
 pub words_read : IsReadOff AreShortWords FollowsWords words_text
-unfolding words_text
+unfolding joined_or_none words_text
 words_read = record { one = λ ws vs u v p q f g e. by ws vs u v (short_each ws p) (short_each vs q) f g e }
   where
     by : (ws vs : List (List ℕ)) (u v : List ℕ) → Each IsShortWord ws → Each IsShortWord vs → FollowsWords u → FollowsWords v

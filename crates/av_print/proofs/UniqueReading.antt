@@ -98,7 +98,7 @@ abbrev pub IsWritable : ℕ → Type 0
 IsWritable n = n < 10 ^ 64
 
 -- such numbers have different numerals
-numeral_once : (m n : ℕ) → IsWritable m → IsWritable n → decimal m ≡ decimal n → m ≡ n
+pub numeral_once : (m n : ℕ) → IsWritable m → IsWritable n → decimal m ≡ decimal n → m ≡ n
 numeral_once m n sm sn e = sym (decimal_is_IsNumeral_wide m sm).1 ∙ ap (digits_value 10) e ∙ (decimal_is_IsNumeral_wide n sn).1
 
 -- a number is read off before a byte that is no digit

@@ -8,7 +8,7 @@ use Rattle.av_sys.specs.declared.terms.Term.{Term}
 use Rattle.av_sys.specs.declared.terms.Term.TheVariants.{Point, Node}
 use Rattle.av_sys.specs.declared.terms.Equation.{Equation}
 use Rattle.av_sys.specs.declared.terms.System.{System}
-use Rattle.av_print.specs.Text.{word_text, words_text, root_text, node_text, tree_texts, tree_text}
+use Rattle.av_print.specs.Text.{joined_or_none, word_text, words_text, root_text, node_text, tree_texts, tree_text}
 use Rattle.av_print.specs.Systems.{number_text, children_text, term_text, terms_text, name_text, equation_text, equations_text, counts_text, system_text}
 
 -- a root with the trees of its blocks
@@ -57,13 +57,13 @@ system_132 = record {
       ∷ [];
 }
 
-text_of_system_132 : system_text system_132
-    ≡ codes "system 1 equations 5 terms 10\n"
+text_of_system_132 : system_text 2 system_132
+    ≡ codes "system 2 equations 5 terms 10\n"
     ++ (codes "E0 C avoid 132 require none = 1 | 12[E1,E2] | 21[E3,E0]\n"
     ++ (codes "E1 P avoid 132 require none = 1 | 21[E3,E0]\n"
     ++ (codes "E2 C avoid 21 require none = 1 | 12[E4,E2]\n"
     ++ (codes "E3 M avoid 132 require none = 1 | 12[E1,E2]\n"
     ++ (codes "E4 P avoid 21 require none = 1\n"
     ++ codes "end\n")))))
-unfolding digits word_text words_text root_text number_text children_text term_text terms_text name_text equation_text equations_text counts_text system_text
+unfolding digits joined_or_none word_text words_text root_text number_text children_text term_text terms_text name_text equation_text equations_text counts_text system_text
 text_of_system_132 = refl

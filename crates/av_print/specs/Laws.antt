@@ -1,5 +1,5 @@
 -- The laws of texts.
-use Rattle.std.specs.Prelude.{◌≡◌, Ok}
+use Rattle.std.specs.Prelude.{◌≡◌, ℕ, ◌<◌, ◌^◌, Ok}
 use Rattle.av_sys.specs.declared.terms.System.{System}
 use Rattle.av_sys.specs.Terms.{IsWellFormed, AreNamedByWords}
 use Rattle.av_text.specs.declared.queries.Query.{Query}
@@ -10,9 +10,10 @@ use Rattle.av_text.specs.Read.{line_said}
 use Rattle.av_print.specs.Text.{query_text}
 use Rattle.av_print.specs.Systems.{system_text}
 
--- two different systems have different texts
+-- two different pairs of a version, below 2 ^ 8, and a system have different texts
 abbrev pub SystemTextLaw : Type 0
-SystemTextLaw = (S T : System) → IsWellFormed S → IsWellFormed T → AreNamedByWords S → AreNamedByWords T → system_text S ≡ system_text T → S ≡ T
+SystemTextLaw = (m n : ℕ) (S T : System) → m < 2 ^ 8 → n < 2 ^ 8 → IsWellFormed S → IsWellFormed T → AreNamedByWords S → AreNamedByWords T
+    → system_text m S ≡ system_text n T → (m ≡ n) × (S ≡ T)
 
 -- the canonical text of a query, read as a line of a script, is that query
 abbrev pub QueryTextLaw : Type 0

@@ -51,11 +51,11 @@ equations_text u (e ∷ es) = equation_text u e ⊹ equations_text (suc u) es
 abbrev pub terms_count : List Equation → ℕ
 terms_count es = sum_by (λ e. length e.terms) es
 
--- the first line: how many equations there are, and how many terms
-unfoldable pub counts_text : ℕ → ℕ → List ℕ
-counts_text equations terms = codes "system 1 equations " ⊹ decimal equations ⊹ codes " terms " ⊹ decimal terms ⊹ codes "\n"
+-- the first line: the version, how many equations there are, and how many terms
+unfoldable pub counts_text : ℕ → ℕ → ℕ → List ℕ
+counts_text version equations terms = codes "system " ⊹ decimal version ⊹ codes " equations " ⊹ decimal equations ⊹ codes " terms " ⊹ decimal terms ⊹ codes "\n"
 
--- a system: its first line, its equations numbered from 0 on, and a last line
-unfoldable pub system_text : System → List ℕ
-system_text S =
-    counts_text (length S.equations) (terms_count S.equations) ⊹ equations_text 0 S.equations ⊹ codes "end\n"
+-- a system in a version: its first line, its equations numbered from 0 on, and a last line
+unfoldable pub system_text : ℕ → System → List ℕ
+system_text version S =
+    counts_text version (length S.equations) (terms_count S.equations) ⊹ equations_text 0 S.equations ⊹ codes "end\n"

@@ -3,11 +3,13 @@ use Rattle.std.specs.Prelude.{ℕ, List, [], ◌∷◌, ◌++◌, length, nat_le
 use Rattle.std.specs.List.{join_by}
 use Rattle.av_count.specs.declared.count.Count.{Count}
 use Rattle.av_count.specs.declared.count.Count.TheVariants.{Known, Over}
+use Rattle.av_stat.specs.declared.bars.Bar.{Bar}
+use Rattle.av_dist.specs.declared.bars.DistBar.{DistBar}
 use Rattle.av_decomp.specs.RootTrees.{RootTrees, none, more, RootTree}
 use Rattle.av_text.specs.declared.queries.Form.TheVariants as form
 use Rattle.av_text.specs.declared.queries.Query.{Query}
 use Rattle.av_text.specs.declared.queries.Query.TheVariants as query
-use Rattle.av_text.specs.Queries.{form_name, statistic_name}
+use Rattle.av_text.specs.Queries.{form_name, statistic_name, dist_kind_name}
 
 -- one text, and then another
 infixr 65 ◌⊹◌
@@ -23,14 +25,36 @@ count_text Over = codes "over"
 unfoldable pub word_text : List ℕ → List ℕ
 word_text w = if nat_le (length w) 9 then join_by decimal [] w else join_by decimal (codes ",") w
 
--- words joined by single spaces, or `none`
+-- the texts of items joined by single spaces, or `none` where there is no item
+unfoldable pub joined_or_none : {A : Type 0} → (A → List ℕ) → List A → List ℕ
+joined_or_none text [] = codes "none"
+joined_or_none text (x ∷ xs) = join_by text (codes " ") (x ∷ xs)
+
+-- words likewise
 unfoldable pub words_text : List (List ℕ) → List ℕ
-words_text [] = codes "none"
-words_text (w ∷ ws) = join_by word_text (codes " ") (w ∷ ws)
+words_text ws = joined_or_none word_text ws
 
 -- places of a word, joined by single spaces
 unfoldable pub places_text : List ℕ → List ℕ
 places_text places = join_by decimal (codes " ") places
+
+-- a value, and how many have it
+abbrev pub tally_text : ℕ → ℕ → List ℕ
+tally_text value count = decimal value ⊹ codes ":" ⊹ decimal count
+
+-- a bar of a histogram, and of a distribution
+abbrev pub bar_text : Bar → List ℕ
+bar_text b = tally_text b.value b.count
+
+abbrev pub dist_bar_text : DistBar → List ℕ
+dist_bar_text b = tally_text b.value b.count
+
+-- all of them
+abbrev pub bars_text : List Bar → List ℕ
+bars_text bs = joined_or_none bar_text bs
+
+abbrev pub dist_bars_text : List DistBar → List ℕ
+dist_bars_text bs = joined_or_none dist_bar_text bs
 
 -- the line of a word with its rank
 unfoldable pub ranked_text : ℕ → List ℕ → List ℕ
@@ -54,6 +78,7 @@ query_tokens (query.Draw n s k) = form_name form.Draw ∷ decimal n ∷ decimal 
 query_tokens (query.DrawStat t n s k) = form_name form.DrawStat ∷ statistic_name t ∷ decimal n ∷ decimal s ∷ decimal k ∷ []
 query_tokens (query.Stat t n) = form_name form.Stat ∷ statistic_name t ∷ decimal n ∷ []
 query_tokens (query.Pick t v n) = form_name form.Pick ∷ statistic_name t ∷ decimal v ∷ decimal n ∷ []
+query_tokens (query.Dist t n) = form_name form.Dist ∷ dist_kind_name t ∷ decimal n ∷ []
 
 -- the canonical text of a query
 unfoldable pub query_text : Query → List ℕ

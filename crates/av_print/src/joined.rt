@@ -5,7 +5,7 @@ ghost use Rattle.av_io.specs.Causes.{Rose};
 ghost use Rattle.av_print.specs.Wrote.{AppendsPart};
 ghost use Rattle.std.specs.List.{join_by};
 
-use crate::bytes::Bytes;
+use crate::bytes::{Bytes, put};
 use crate::text::Text;
 use av_io::{Sink, SinkFault};
 
@@ -47,6 +47,30 @@ impl<T: Text> Text for Joined<'_, T> {
                 first.put_on(sink)?;
                 put_others(sink, separator, others)
             }
+        }
+    }
+}
+
+/// Items, whose texts are joined by single spaces; `none` where there is no item.
+#[derive(Clone, Copy)]
+pub struct JoinedOrNone<'a, T> {
+    pub items: &'a [T],
+}
+
+impl<T: Text> Text for JoinedOrNone<'_, T> {
+    ghost use Rattle.av_print.specs.Text.{joined_or_none};
+
+    ghost text = { λ list. joined_or_none T.text list.items.now };
+
+    #[tactic(auto, unfolding(crate::specs::Text::joined_or_none))]
+    fn put_on<K: Sink>(&self, sink: &mut K) -> Result<(), SinkFault> {
+        match self.items {
+            [] => put(sink, b"none"),
+            items => Joined {
+                separator: b" ",
+                items,
+            }
+            .put_on(sink),
         }
     }
 }

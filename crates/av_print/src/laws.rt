@@ -1,7 +1,7 @@
 // The laws of texts.
 ghost use Rattle.av_print.specs.Laws.{SystemTextLaw, QueryTextLaw};
 
-/// Two different well-formed systems, whose names avoid and require words, have different texts.
+/// Two different pairs of a version and a well-formed system, whose names avoid and require words, have different texts.
 pub fn system_text_law()
     ensures { SystemTextLaw }
 {}

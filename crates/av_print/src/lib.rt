@@ -5,6 +5,7 @@
 //! turn are tuples: `(Bytes(b"basis "), words, Bytes(b"\n")).put_on(sink)`. Only [`put_gathered`] takes memory of its own.
 #![tactic(auto)]
 
+mod bars;
 mod bytes;
 mod counts;
 mod gathered;

@@ -10,7 +10,7 @@ use crate::numbers::Number;
 use crate::text::Text;
 use av_io::{Sink, SinkFault};
 use av_perm::StatKind;
-use av_text::{Form, Query, statistic_name};
+use av_text::{DistKind, Form, Query, statistic_name};
 
 /// Texts with a single space between each two.
 #[derive(Clone, Copy)]
@@ -64,6 +64,17 @@ impl Text for StatKind {
     }
 }
 
+/// The text of a kind of distribution is the name of its statistic.
+impl Text for DistKind {
+    ghost use Rattle.av_text.specs.Queries.{dist_kind_name};
+
+    ghost text = { dist_kind_name };
+
+    fn put_on<K: Sink>(&self, sink: &mut K) -> Result<(), SinkFault> {
+        put(sink, statistic_name(self.statistic()))
+    }
+}
+
 /// Writes the query's canonical text: its form with single spaces, with words in their text. Read as a line of a script it
 /// is the query again, as [`crate::laws::query_text_law`] says.
 #[tactic(auto, unfolding(crate::specs::Text::query_text, crate::specs::Text::query_tokens))]
@@ -104,6 +115,7 @@ pub fn put_query<K: Sink>(sink: &mut K, query: &Query) -> Result<(), SinkFault>
             let value = Number(u128::from(*value));
             Spaced((Form::Pick, kind, value, n)).put_on(sink)
         }
+        Query::Dist { kind, n } => Spaced((Form::Dist, kind, n)).put_on(sink),
     }
 }
 

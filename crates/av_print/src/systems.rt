@@ -155,9 +155,10 @@ impl Text for Equations {
     }
 }
 
-/// How many equations and how many terms there are, whose text is the first line.
+/// The version, and how many equations and how many terms there are, whose text is the first line.
 #[derive(Clone, Copy)]
 struct Counts {
+    version: u8,
     equations: u128,
     terms: u128,
 }
@@ -165,12 +166,18 @@ struct Counts {
 impl Text for Counts {
     ghost use Rattle.av_print.specs.Systems.{counts_text};
 
-    ghost text = { λ counts. counts_text counts.equations counts.terms };
+    ghost text = { λ counts. counts_text counts.version counts.equations counts.terms };
 
     #[tactic(auto, unfolding(crate::specs::Systems::counts_text))]
     fn put_on<K: Sink>(&self, sink: &mut K) -> Result<(), SinkFault> {
         let terms = (Bytes(b" terms "), Number(self.terms), Bytes(b"\n"));
-        (Bytes(b"system 1 equations "), Number(self.equations), terms).put_on(sink)
+        let equations = (Bytes(b" equations "), Number(self.equations), terms);
+        (
+            Bytes(b"system "),
+            Number(u128::from(self.version)),
+            equations,
+        )
+            .put_on(sink)
     }
 }
 
@@ -185,12 +192,13 @@ fn terms_count(equations: &Equations) -> u128
     count
 }
 
-/// Writes the system: a line with the number of its equations and that of all their terms, a line for each equation, and
-/// the line `end`. Two different well-formed systems have different texts, as [`crate::laws::system_text_law`] says.
+/// Writes the system: a line with the version, the number of its equations and that of all their terms, a line for each
+/// equation, and the line `end`. Version 1 is that of a canonical system, and version 2 that of a pruned one. Two different
+/// pairs of a version and a well-formed system have different texts, as [`crate::laws::system_text_law`] says.
 #[tactic(auto, unfolding(crate::specs::Systems::system_text))]
-pub fn put_system<K: Sink>(sink: &mut K, system: &System) -> Result<(), SinkFault>
-    ensures whole { OnOk result (Appends (K.held sink.old) (K.held sink.new) (system_text system.now)) }
-    ensures part { AppendsPart (K.held sink.old) (K.held sink.new) (system_text system.now) }
+pub fn put_system<K: Sink>(sink: &mut K, system: &System, version: u8) -> Result<(), SinkFault>
+    ensures whole { OnOk result (Appends (K.held sink.old) (K.held sink.new) (system_text version system.now)) }
+    ensures part { AppendsPart (K.held sink.old) (K.held sink.new) (system_text version system.now) }
     ensures later { K.faults sink.old ≤ K.faults sink.new }
     ensures wants_later { K.wants sink.old ≤ K.wants sink.new }
     ensures failed { IsErrOf result SinkFault.Failed → Rose (K.faults sink.old) (K.faults sink.new) }
@@ -198,18 +206,9 @@ pub fn put_system<K: Sink>(sink: &mut K, system: &System) -> Result<(), SinkFaul
 {
     let equations = &system.equations;
     let counts = Counts {
+        version,
         equations: equations.len() as u128,
         terms: terms_count(equations),
     };
     (counts, equations, Bytes(b"end\n")).put_on(sink)
-}
-
-impl Text for System {
-    ghost use Rattle.av_print.specs.Systems.{system_text};
-
-    ghost text = { system_text };
-
-    fn put_on<K: Sink>(&self, sink: &mut K) -> Result<(), SinkFault> {
-        put_system(sink, self)
-    }
 }

@@ -8,7 +8,7 @@ use av_io::{MemSink, Sink, SinkFault, SureSink};
 use av_match::find;
 use av_perm::{Perm, StatKind, Words};
 use av_sys::{Children, Equation, Equations, Name, Sign, System, Term, Terms};
-use av_text::Query;
+use av_text::{DistKind, Query};
 use std::alloc::Global;
 use std::test::Fail;
 
@@ -121,11 +121,19 @@ fn canonical_texts_of_queries(rt: HostRuntime) -> Result<(), Fail> {
             n: 1,
         },
     )?;
+    put_line(
+        &mut sink,
+        Query::Dist {
+            kind: DistKind::Inv,
+            n: 24,
+        },
+    )?;
     assert_eq!(rt;
         sink.bytes(),
         &b"count 7\ncounts 160\nlist 5 from 2 for 1000000\n\
            unrank 10 340282366920938463463374607431768211455\nrank 213\ntree 213\n\
-           draw 3 18446744073709551615 2\ndrawstat lrm 160 0 100000\nstat inv 12\npick des 12720 1\n"[..]
+           draw 3 18446744073709551615 2\ndrawstat lrm 160 0 100000\nstat inv 12\npick des 12720 1\n\
+           dist inv 24\n"[..]
     );
     Ok(())
 }
@@ -233,10 +241,10 @@ fn the_system_of_the_class_that_avoids_132(rt: HostRuntime) -> Result<(), Fail> 
     equations.push(equation(alloc, Sign::M, &[1, 3, 2], &[1, 2], &[])?)?;
     equations.push(equation(alloc, Sign::P, &[2, 1], &[], &[])?)?;
     let mut sink = SureSink::new(alloc);
-    put_system(&mut sink, &System { equations })?;
+    put_system(&mut sink, &System { equations }, 2)?;
     assert_eq!(rt;
         sink.bytes(),
-        &b"system 1 equations 5 terms 10\nE0 C avoid 132 require none = 1 | 12[E1,E2] | 21[E3,E0]\nE1 P avoid 132 require none = 1 | 21[E3,E0]\nE2 C avoid 21 require none = 1 | 12[E4,E2]\nE3 M avoid 132 require none = 1 | 12[E1,E2]\nE4 P avoid 21 require none = 1\nend\n"[..]
+        &b"system 2 equations 5 terms 10\nE0 C avoid 132 require none = 1 | 12[E1,E2] | 21[E3,E0]\nE1 P avoid 132 require none = 1 | 21[E3,E0]\nE2 C avoid 21 require none = 1 | 12[E4,E2]\nE3 M avoid 132 require none = 1 | 12[E1,E2]\nE4 P avoid 21 require none = 1\nend\n"[..]
     );
     Ok(())
 }
@@ -268,7 +276,7 @@ fn a_long_root_and_an_equation_without_terms(rt: HostRuntime) -> Result<(), Fail
     equations.push(first)?;
     equations.push(requiring(alloc, &[2, 4, 1, 3])?)?;
     let mut sink = SureSink::new(alloc);
-    put_system(&mut sink, &System { equations })?;
+    put_system(&mut sink, &System { equations }, 1)?;
     assert_eq!(rt;
         sink.bytes(),
         &b"system 1 equations 2 terms 2\nE0 C avoid 321 require none = 1 | (2,4,6,8,10,1,3,5,7,9)[E1,E0,E1,E0,E1,E0,E1,E0,E1,E1]\nE1 M avoid none require 2413 = none\nend\n"[..]

@@ -5,8 +5,7 @@ ghost use Rattle.av_io.specs.Causes.{Rose};
 ghost use Rattle.av_print.specs.Wrote.{AppendsPart};
 ghost use Rattle.av_print.specs.Text.{word_text, words_text};
 
-use crate::bytes::put;
-use crate::joined::Joined;
+use crate::joined::{Joined, JoinedOrNone};
 use crate::text::Text;
 use av_io::{Sink, SinkFault};
 use av_perm::{Perm, Words};
@@ -46,14 +45,8 @@ pub fn put_words<K: Sink>(sink: &mut K, words: &Words) -> Result<(), SinkFault>
     ensures failed { IsErrOf result SinkFault.Failed → Rose (K.faults sink.old) (K.faults sink.new) }
     ensures memory { IsErrOf result SinkFault.Memory → Rose (K.wants sink.old) (K.wants sink.new) }
 {
-    match words.as_slice() {
-        [] => put(sink, b"none"),
-        items => Joined {
-            separator: b" ",
-            items,
-        }
-        .put_on(sink),
-    }
+    let items = words.as_slice();
+    JoinedOrNone { items }.put_on(sink)
 }
 
 impl Text for Words {

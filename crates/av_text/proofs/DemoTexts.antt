@@ -1,5 +1,5 @@
 -- The lines and the tokens of a demo script.
-use Rattle.std.proofs.Common.{◌≡◌, ℕ, zero, suc, ◌-◌, ◌<◌, ◌≤◌, ◌%◌, ◌^◌, Bool, true, false, not, ◌||◌, ◌==◌, nat_lt, List, [], ◌∷◌, ◌++◌, map, length, codes, decimal, slice_index, Ok, refl, sym, ap, ◌∙◌, subst, arith, inl, inr, length-append}
+use Rattle.std.proofs.Common.{◌≡◌, ℕ, zero, suc, ◌-◌, ◌<◌, ◌≤◌, ◌%◌, ◌^◌, Bool, true, false, not, ◌||◌, ◌==◌, nat_lt, List, [], ◌∷◌, ◌++◌, map, length, codes, decimal, slice_index, Ok, refl, sym, ap, ◌∙◌, subst, arith, inl, inr, length-append, None}
 use Rattle.std.specs.List.{list_all, slice_split}
 use Rattle.std.specs.Char.{is_ascii_digit, digit_value}
 use Rattle.std.specs.Str.Parse.{AllDigits}
@@ -15,14 +15,14 @@ use Rattle.av_perm.specs.Word.{words, arrangements}
 use Rattle.av_perm.proofs.Membership.{In_at}
 use Rattle.av_perm.proofs.Tests.{all_from}
 use Rattle.av_perm.proofs.WordLists.{words_arrange}
-use Rattle.av_text.specs.declared.limits.TheConstants.{MAX_DEMO, MAX_SCRIPT_BYTES}
+use Rattle.av_text.specs.declared.limits.TheConstants.{MAX_DEMO, MAX_SCRIPT_BYTES, DEFAULT_FORMAT}
 use Rattle.av_text.specs.declared.says.Seen.{Seen}
 use Rattle.av_text.specs.declared.queries.Query.TheVariants as query
 use Rattle.av_text.specs.declared.says.Says.TheVariants.{Basis, Asks}
 use Rattle.av_text.specs.Demo.{ten_words, demo_word, digits_text, demo_script, demo_basis, basis_line, counts_line, draws_line, IsDemo}
 use Rattle.av_text.specs.Lines.{is_filled, is_line_feed, is_blank, is_allowed, script_lines, tokens}
 use Rattle.av_text.specs.Numerals.{is_digits, is_numeral, number_in}
-use Rattle.av_text.specs.Read.{unseen, basis_words, basis_said, tokens_said, line_said, lines_said, read}
+use Rattle.av_text.specs.Read.{unseen, patterns, patterns_once, tokens_said, line_said, lines_said, read, union_words}
 use Rattle.av_text.specs.Queries.{form_named, length_in, drawn_in, statistic_named, query_with_one, query_with_four, query_with, query_of}
 use Rattle.av_text.specs.Words.{entries_of, checked_word, word_in}
 use Rattle.av_text.proofs.DemoGaps.{demo_gap}
@@ -104,12 +104,12 @@ as_long : (w : List ℕ) → length (digits_text w) ≡ length w
 as_long [] = refl
 as_long (x ∷ w) = ap suc (as_long w)
 
-no_more : basis_words [] ≡ Ok []
-unfolding basis_words
+no_more : patterns [] ≡ Ok []
+unfolding patterns
 no_more = refl
 
-one_more : (t : List ℕ) (ts : List (List ℕ)) (w : List ℕ) (ws : List (List ℕ)) → word_in MAX_PATTERN_LENGTH t ≡ Ok w → basis_words ts ≡ Ok ws → basis_words (t ∷ ts) ≡ Ok (w ∷ ws)
-unfolding basis_words
+one_more : (t : List ℕ) (ts : List (List ℕ)) (w : List ℕ) (ws : List (List ℕ)) → word_in MAX_PATTERN_LENGTH t ≡ Ok w → patterns ts ≡ Ok ws → patterns (t ∷ ts) ≡ Ok (w ∷ ws)
+unfolding patterns
 one_more t ts w ws e f = rw (e, f) refl
 
 or_true : (a b : Bool) → b ≡ false → (a || not b) ≡ true
@@ -126,8 +126,8 @@ unfolding word_in entries_of checked_word is_digits
 ten_read = refl
 
 -- words that are read stand before others that are
-read_before : (ts : List (List ℕ)) (ws : List (List ℕ)) (us : List (List ℕ)) (vs : List (List ℕ)) → map (word_in MAX_PATTERN_LENGTH) ts ≡ map (λ w. Ok w) ws → basis_words us ≡ Ok vs
-    → basis_words (ts ++ us) ≡ Ok (ws ++ vs)
+read_before : (ts : List (List ℕ)) (ws : List (List ℕ)) (us : List (List ℕ)) (vs : List (List ℕ)) → map (word_in MAX_PATTERN_LENGTH) ts ≡ map (λ w. Ok w) ws → patterns us ≡ Ok vs
+    → patterns (ts ++ us) ≡ Ok (ws ++ vs)
 read_before [] [] us vs e f = f
 read_before [] (w ∷ ws) us vs e f = cc
 read_before (t ∷ ts) [] us vs e f = cc
@@ -138,7 +138,7 @@ read_before (t ∷ ts) (w ∷ ws) us vs e f =
 
 -- the basis line was seen
 abbrev basis_seen : Seen
-basis_seen = record { basis = true }
+basis_seen = record { basis = true; union_with = false; require = false; format = false }
 
 -- the other numbers of the last line are read
 forty : length_in (codes "40") ≡ Ok 40
@@ -220,11 +220,11 @@ module _ (g : ℕ) (small : g ≤ MAX_DEMO) where
   last_allowed = digits_allowed (decimal g) (codes " 1000") number_digits refl
 
   -- the words of the first line are read
-  basis_read : basis_words (ten_tokens ++ (digits_text (demo_word g) ∷ [])) ≡ Ok (demo_basis g)
+  basis_read : patterns (ten_tokens ++ (digits_text (demo_word g) ∷ [])) ≡ Ok (demo_basis g)
   basis_read = read_before ten_tokens ten_words _ _ ten_read (one_more (digits_text (demo_word g)) [] (demo_word g) [] word_read no_more)
 
   basis_is : line_said unseen (basis_line g) ≡ Ok (Basis (demo_basis g))
-  unfolding line_said tokens_said basis_said tokens
+  unfolding line_said tokens_said patterns_once tokens
   basis_is = rw (first_allowed, first_tokens, filled (digits_text (demo_word g)) (omega (arith, word_long)), basis_read) refl
 
   -- the number is read as itself
@@ -251,8 +251,8 @@ module _ (g : ℕ) (small : g ≤ MAX_DEMO) where
   unfolding line_said tokens_said query_of form_named query_with query_with_four statistic_named
   draws_read = rw (last_allowed, last_words, forty, number_read (2 ^ 64 - 1) (omega (arith, small)), thousand) refl
 
-  script_read : read (demo_script g) ≡ Ok (record { basis = demo_basis g; queries = query.Counts 160 ∷ query.DrawStat stat.Inv 40 g 1000 ∷ [] })
-  unfolding read lines_said
+  script_read : read (demo_script g) ≡ Ok (record { basis = demo_basis g; union_with = None; require = None; format = DEFAULT_FORMAT; queries = query.Counts 160 ∷ query.DrawStat stat.Inv 40 g 1000 ∷ [] })
+  unfolding read lines_said union_words
   script_read = rw (few (length (demo_script g)) few_bytes, lines_are, basis_is, counts_read, draws_read) refl
     where
       few : (n : ℕ) → n ≤ MAX_SCRIPT_BYTES → nat_lt MAX_SCRIPT_BYTES n ≡ false

@@ -4,7 +4,7 @@ pub mod DemoTexts
 pub mod Digits
 pub mod Cuts
 pub mod Shorts
-pub mod BasisWords
+pub mod PatternWords
 pub mod Kept
 pub mod Reading
 mod Worked

@@ -1,9 +1,9 @@
 -- The demo scripts, one for each number.
-use Rattle.std.specs.Prelude.{◌≡◌, ℕ, ◌+◌, ◌≤◌, ◌%◌, List, [], ◌∷◌, ◌++◌, map, length, codes, decimal, slice_get, unwrap_or, Ok}
+use Rattle.std.specs.Prelude.{◌≡◌, ℕ, ◌+◌, ◌≤◌, ◌%◌, List, [], ◌∷◌, ◌++◌, map, length, codes, decimal, slice_get, unwrap_or, None, Ok}
 use Rattle.av_perm.specs.Laws.{IsLeastGap}
 use Rattle.av_perm.specs.Word.{words}
 use Rattle.av_perm.specs.declared.StatKind.TheVariants as stat
-use Rattle.av_text.specs.declared.limits.TheConstants.{MAX_DEMO, MAX_SCRIPT_BYTES}
+use Rattle.av_text.specs.declared.limits.TheConstants.{MAX_DEMO, MAX_SCRIPT_BYTES, DEFAULT_FORMAT}
 use Rattle.av_text.specs.declared.queries.Query.TheVariants as query
 use Rattle.av_text.specs.Lines.{script_lines}
 use Rattle.av_text.specs.Read.{read}
@@ -61,7 +61,7 @@ HasGap basis limit = (k : ℕ) × (k ≤ 5) × IsLeastGap basis limit k
 pub record IsDemo (g : ℕ) : Type 0 where
   pub short : length (demo_script g) ≤ MAX_SCRIPT_BYTES
   pub lines : script_lines (demo_script g) ≡ basis_line g ∷ counts_line ∷ draws_line g ∷ []
-  pub reads : read (demo_script g) ≡ Ok (record { basis = demo_basis g; queries = query.Counts 160 ∷ query.DrawStat stat.Inv 40 g 1000 ∷ [] })
+  pub reads : read (demo_script g) ≡ Ok (record { basis = demo_basis g; union_with = None; require = None; format = DEFAULT_FORMAT; queries = query.Counts 160 ∷ query.DrawStat stat.Inv 40 g 1000 ∷ [] })
   -- from 6 on each limit of lengths settles its class
   pub settled : (limit : ℕ) → 6 ≤ limit → HasGap (demo_basis g) limit
 

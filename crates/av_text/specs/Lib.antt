@@ -6,6 +6,7 @@ pub mod Numerals
 pub mod Words
 pub mod Queries
 pub mod Read
+pub mod Heard
 pub mod Ranges
 pub mod Answers
 pub mod Demo

@@ -7,7 +7,9 @@ use Rattle.av_perm.specs.Lists.{same}
 use Rattle.av_perm.specs.Word.{is_perm}
 use Rattle.av_text.specs.declared.kind.Kind.{Kind}
 use Rattle.av_text.specs.declared.kind.Kind.TheVariants.{UnknownQuery}
-use Rattle.av_text.specs.declared.limits.TheConstants.{MAX_LISTED, DEFAULT_LISTED, MAX_DRAWN, MAX_STATISTIC_LENGTH}
+use Rattle.av_text.specs.declared.limits.TheConstants.{MAX_LISTED, DEFAULT_LISTED, MAX_DRAWN, MAX_STATISTIC_LENGTH, MAX_DISTRIBUTION_LENGTH}
+use Rattle.av_text.specs.declared.queries.DistKind.{DistKind}
+use Rattle.av_text.specs.declared.queries.DistKind.TheVariants as dist
 use Rattle.av_text.specs.declared.queries.Form.{Form}
 use Rattle.av_text.specs.declared.queries.Form.TheVariants as form
 use Rattle.av_text.specs.declared.queries.Query.{Query}
@@ -28,10 +30,11 @@ form_name form.Draw = codes "draw"
 form_name form.DrawStat = codes "drawstat"
 form_name form.Stat = codes "stat"
 form_name form.Pick = codes "pick"
+form_name form.Dist = codes "dist"
 
 -- all forms
 abbrev pub forms : List Form
-forms = form.Count ∷ form.Counts ∷ form.List ∷ form.Unrank ∷ form.Rank ∷ form.Tree ∷ form.Draw ∷ form.DrawStat ∷ form.Stat ∷ form.Pick ∷ []
+forms = form.Count ∷ form.Counts ∷ form.List ∷ form.Unrank ∷ form.Rank ∷ form.Tree ∷ form.Draw ∷ form.DrawStat ∷ form.Stat ∷ form.Pick ∷ form.Dist ∷ []
 
 -- the form that a token names
 unfoldable pub form_named : List ℕ → Option Form
@@ -105,6 +108,34 @@ statistic_named t = find (λ k. same (statistic_name k) t) statistics
 abbrev pub statistic_in : List ℕ → Result StatKind Kind
 statistic_in t = ok_or (statistic_named t) UnknownQuery
 
+-- a length of words of whose statistics a distribution is asked for
+abbrev pub IsDistributionLength : ℕ → Type 0
+IsDistributionLength n = (1 ≤ n) × (n ≤ MAX_DISTRIBUTION_LENGTH)
+
+abbrev pub distribution_length_in : List ℕ → Result ℕ Kind
+distribution_length_in t = number_in 1 MAX_DISTRIBUTION_LENGTH t
+
+-- a kind of distribution as a kind of statistic
+abbrev pub stat_kind : DistKind → StatKind
+stat_kind dist.Inv = stat.Inv
+stat_kind dist.Des = stat.Des
+
+-- the token that names a kind of distribution: that of its statistic
+abbrev pub dist_kind_name : DistKind → List ℕ
+dist_kind_name k = statistic_name (stat_kind k)
+
+-- all kinds of distributions
+abbrev pub dist_kinds : List DistKind
+dist_kinds = dist.Inv ∷ dist.Des ∷ []
+
+-- the kind of distribution that a token names
+unfoldable pub dist_kind_named : List ℕ → Option DistKind
+dist_kind_named t = find (λ k. same (dist_kind_name k) t) dist_kinds
+
+-- where none is named, the line has no form of a query
+abbrev pub dist_kind_in : List ℕ → Result DistKind Kind
+dist_kind_in t = ok_or (dist_kind_named t) UnknownQuery
+
 -- the tokens before a rank, and before a number of words
 abbrev pub is_from : List ℕ → Bool
 is_from t = same t (codes "from")
@@ -141,6 +172,10 @@ query_with_two form.Stat a b = do
   t ← statistic_in a
   n ← statistic_length_in b
   Ok (query.Stat t n)
+query_with_two form.Dist a b = do
+  t ← dist_kind_in a
+  n ← distribution_length_in b
+  Ok (query.Dist t n)
 query_with_two _ a b = Err UnknownQuery
 
 -- with three
@@ -214,3 +249,4 @@ IsInRange (query.Draw n s k) = IsLength n × IsSeed s × IsDrawn k
 IsInRange (query.DrawStat t n s k) = IsLength n × IsSeed s × IsDrawn k
 IsInRange (query.Stat t n) = IsStatisticLength n
 IsInRange (query.Pick t v n) = IsStatisticValue v × IsStatisticLength n
+IsInRange (query.Dist t n) = IsDistributionLength n

@@ -12,13 +12,14 @@ pub enum Kind {
     /// number, each once.
     #[error("a token is no word")]
     BadWord = 2,
-    /// A word has more entries than may stand there: 12 in the basis line, 160 in a query.
+    /// A word has more entries than may stand there: 12 in the basis line, the union line and the line of
+    /// required words, 160 in a query.
     #[error("a word is too long")]
     LongWord = 3,
-    /// The basis line has more than 64 words.
-    #[error("there are more than 64 basis words")]
+    /// The basis line, the union line or the line of required words has more than 64 words.
+    #[error("there are more than 64 words in a line")]
     ManyWords = 4,
-    /// A line fits no form of a query.
+    /// A line fits no form of a query, or is a format line without one argument.
     #[error("the line is no query")]
     UnknownQuery = 5,
     /// An argument that should be a number is no numeral.
@@ -36,10 +37,22 @@ pub enum Kind {
     /// A line is a basis line, and so is an earlier one.
     #[error("there is a second basis line")]
     SecondBasis = 10,
+    /// A line is one of required words, and so is an earlier one.
+    #[error("there is a second line of required words")]
+    SecondRequire = 11,
+    /// A line is a format line, and so is an earlier one.
+    #[error("there is a second format line")]
+    SecondFormat = 12,
+    /// The longest word of the basis line and the longest of the union line have together more than 10 entries.
+    #[error("the words of the basis and of the union are too long together")]
+    LongUnion = 14,
+    /// A line is a union line, and so is an earlier one.
+    #[error("there is a second union line")]
+    SecondUnion = 15,
 }
 
 impl Kind {
-    /// The number that a fault is reported by, from 1 to 10.
+    /// The number that a fault is reported by, from 1 to 15.
     pub fn number(self) -> u8
         ensures { result ≡ number_of self }
     {

@@ -1,12 +1,14 @@
 // Queries.
 ghost use Rattle.std.specs.Prelude.{◌≡◌, ◌≤◌, map, IfOk};
 ghost use Rattle.av_perm.specs.Lists.{same};
-ghost use Rattle.av_text.specs.Queries.{form_name, form_named, IsLength, IsRank, IsListed, IsSeed, IsDrawn, IsStatisticLength, IsStatisticValue, length_in, rank_in, listed_in, seed_in, drawn_in, statistic_length_in, statistic_value_in, is_from, is_for, query_with_one, query_with_two, query_with_three, query_with_four, query_with_five, query_with, query_of, IsInRange};
+ghost use Rattle.av_text.specs.Queries.{form_name, form_named, IsLength, IsRank, IsListed, IsSeed, IsDrawn, IsStatisticLength, IsStatisticValue, IsDistributionLength, length_in, rank_in, listed_in, seed_in, drawn_in, statistic_length_in, statistic_value_in, distribution_length_in, is_from, is_for, query_with_one, query_with_two, query_with_three, query_with_four, query_with_five, query_with, query_of, IsInRange};
 
 use crate::Kind;
-use crate::limits::{DEFAULT_LISTED, MAX_DRAWN, MAX_LISTED, MAX_STATISTIC_LENGTH};
+use crate::limits::{
+    DEFAULT_LISTED, MAX_DISTRIBUTION_LENGTH, MAX_DRAWN, MAX_LISTED, MAX_STATISTIC_LENGTH,
+};
 use crate::numerals::number_in;
-use crate::statistics::statistic_in;
+use crate::statistics::{dist_kind_in, statistic_in};
 use crate::words::word_in;
 use av_perm::{MAX_LENGTH, MAX_STATISTIC, Perm, StatKind};
 
@@ -34,9 +36,20 @@ pub enum Form {
     Stat,
     /// `pick T V N`, with T and N as in `stat` and V from 0 to 12,720.
     Pick,
+    /// `dist T N`, with T one of `inv` and `des` and N from 1 to 24.
+    Dist,
 }
 
-/// A question about the class of the words that avoid the basis.
+/// A statistic of words that a query of a distribution names.
+#[derive(Clone, Copy, Debug, PartialEq, Eq)]
+pub enum DistKind {
+    /// Inversions: pairs of places s < t with the greater entry at s.
+    Inv,
+    /// Descents: places whose entry is greater than the next.
+    Des,
+}
+
+/// A question about the class of a script.
 #[derive(Drop)]
 pub enum Query {
     /// How many words of length `n` the class has.
@@ -111,9 +124,17 @@ pub enum Query {
         /// The length, from 1 to 12.
         n: u8,
     },
+    /// For each value of a statistic, how many words of length `n` of the class have it, from the system and not from a list of
+    /// the words.
+    Dist {
+        /// The statistic.
+        kind: DistKind,
+        /// The length, from 1 to 24.
+        n: u8,
+    },
 }
 
-const FORMS: [Form; 10] = [
+const FORMS: [Form; 11] = [
     Form::Count,
     Form::Counts,
     Form::List,
@@ -124,6 +145,7 @@ const FORMS: [Form; 10] = [
     Form::DrawStat,
     Form::Stat,
     Form::Pick,
+    Form::Dist,
 ];
 
 impl Form {
@@ -142,6 +164,7 @@ impl Form {
             Form::DrawStat => b"drawstat",
             Form::Stat => b"stat",
             Form::Pick => b"pick",
+            Form::Dist => b"dist",
         }
     }
 
@@ -199,6 +222,14 @@ fn statistic_length_in(token: &[u8]) -> Result<u8, Kind>
     ensures range { IfOk result IsStatisticLength }
 {
     Ok(number_in(token, 1, MAX_STATISTIC_LENGTH as u128)? as u8)
+}
+
+/// A length of words of whose statistics a distribution is asked for.
+fn distribution_length_in(token: &[u8]) -> Result<u8, Kind>
+    ensures value { result ≡ distribution_length_in token.now }
+    ensures range { IfOk result IsDistributionLength }
+{
+    Ok(number_in(token, 1, MAX_DISTRIBUTION_LENGTH as u128)? as u8)
 }
 
 /// A value of a statistic.
@@ -261,6 +292,10 @@ fn query_with_two(form: Form, a: &[u8], b: &[u8]) -> Result<Query, Kind>
         Form::Stat => Ok(Query::Stat {
             kind: statistic_in(a)?,
             n: statistic_length_in(b)?,
+        }),
+        Form::Dist => Ok(Query::Dist {
+            kind: dist_kind_in(a)?,
+            n: distribution_length_in(b)?,
         }),
         _ => Err(Kind::UnknownQuery),
     }

@@ -1,11 +1,12 @@
 // What a line of a script says.
 ghost use Rattle.std.specs.Prelude.{◌≡◌, map, IfOk};
-ghost use Rattle.av_text.specs.Read.{basis_words, basis_said, is_comment, is_basis, tokens_said, line_said};
+ghost use Rattle.av_text.specs.Read.{patterns, patterns_once, basis_said, union_said, require_said, format_said, is_comment, is_basis, is_union, is_require, is_format, tokens_said, line_said};
 ghost use Rattle.av_text.specs.Answers.{Gives};
 ghost use Rattle.av_text.specs.Ranges.{AsksInRange};
 
 use crate::Kind;
-use crate::limits::MAX_BASIS_WORDS;
+use crate::limits::{MAX_FORMAT, MAX_PATTERNS};
+use crate::numerals::number_in;
 use crate::queries::{Query, query_of};
 use crate::tokens::{all_allowed, tokens};
 use crate::words::word_in;
@@ -17,6 +18,12 @@ use std::alloc::{AllocError, Global};
 pub struct Seen {
     /// A line was a basis line.
     pub basis: bool,
+    /// A line was a union line.
+    pub union_with: bool,
+    /// A line was one of required words.
+    pub require: bool,
+    /// A line was a format line.
+    pub format: bool,
 }
 
 /// What a line says.
@@ -26,6 +33,12 @@ pub enum Says {
     Nothing,
     /// The words of the basis, as written.
     Basis(Words),
+    /// The words of the union line, as written.
+    Unites(Words),
+    /// The required words, as written.
+    Requires(Words),
+    /// The format of the system.
+    Formats(u8),
     /// A query.
     Asks(Query),
 }
@@ -69,31 +82,74 @@ impl From<Memory> for LineFault {
     }
 }
 
-/// The words of a basis line.
-fn basis_words(alloc: Global, tokens: &[&[u8]]) -> Result<Words, LineFault>
-    ensures { Gives result (basis_words (map (λ t. t.now) tokens.now)) }
+/// The words of a basis line, of a union line, or of a line of required words.
+fn patterns(alloc: Global, tokens: &[&[u8]]) -> Result<Words, LineFault>
+    ensures { Gives result (patterns (map (λ t. t.now) tokens.now)) }
 {
-    let mut basis = Words::empty(alloc);
+    let mut words = Words::empty(alloc);
     for token in tokens {
         let word = word_in(token, MAX_PATTERN_LENGTH)?;
-        basis.push(word)?;
+        words.push(word)?;
     }
-    Ok(basis)
+    Ok(words)
+}
+
+/// The same, where `seen` tells that an earlier line was one, which is a fault of the kind `second`.
+#[tactic(auto, unfolding(crate::specs::Read::patterns_once))]
+fn patterns_once(
+    alloc: Global,
+    seen: bool,
+    second: Kind,
+    tokens: &[&[u8]],
+) -> Result<Words, LineFault>
+    ensures { Gives result (patterns_once seen second (map (λ t. t.now) tokens.now)) }
+{
+    if seen {
+        return Err(LineFault::Refused(second));
+    }
+    if tokens.len() > MAX_PATTERNS {
+        return Err(LineFault::Refused(Kind::ManyWords));
+    }
+    patterns(alloc, tokens)
 }
 
 /// What a basis line says, after lines that said what was seen.
-#[tactic(auto, unfolding(crate::specs::Read::basis_said))]
 fn basis_said(alloc: Global, seen: Seen, tokens: &[&[u8]]) -> Result<Says, LineFault>
     ensures value { Gives result (basis_said seen (map (λ t. t.now) tokens.now)) }
     ensures range { IfOk result AsksInRange }
 {
-    if seen.basis {
-        return Err(LineFault::Refused(Kind::SecondBasis));
+    Ok(Says::Basis(patterns_once(alloc, seen.basis, Kind::SecondBasis, tokens)?))
+}
+
+/// And a union line.
+fn union_said(alloc: Global, seen: Seen, tokens: &[&[u8]]) -> Result<Says, LineFault>
+    ensures value { Gives result (union_said seen (map (λ t. t.now) tokens.now)) }
+    ensures range { IfOk result AsksInRange }
+{
+    Ok(Says::Unites(patterns_once(alloc, seen.union_with, Kind::SecondUnion, tokens)?))
+}
+
+/// And a line of required words.
+fn require_said(alloc: Global, seen: Seen, tokens: &[&[u8]]) -> Result<Says, LineFault>
+    ensures value { Gives result (require_said seen (map (λ t. t.now) tokens.now)) }
+    ensures range { IfOk result AsksInRange }
+{
+    Ok(Says::Requires(patterns_once(alloc, seen.require, Kind::SecondRequire, tokens)?))
+}
+
+/// What a format line says, after lines that said what was seen.
+#[tactic(auto, unfolding(crate::specs::Read::format_said))]
+fn format_said(seen: Seen, tokens: &[&[u8]]) -> Result<Says, LineFault>
+    ensures value { Gives result (format_said seen (map (λ t. t.now) tokens.now)) }
+    ensures range { IfOk result AsksInRange }
+{
+    let [token] = tokens else {
+        return Err(LineFault::Refused(Kind::UnknownQuery));
+    };
+    if seen.format {
+        return Err(LineFault::Refused(Kind::SecondFormat));
     }
-    if tokens.len() > MAX_BASIS_WORDS {
-        return Err(LineFault::Refused(Kind::ManyWords));
-    }
-    Ok(Says::Basis(basis_words(alloc, tokens)?))
+    Ok(Says::Formats(number_in(token, 1, MAX_FORMAT as u128)? as u8))
 }
 
 /// Whether the token begins a comment.
@@ -110,6 +166,27 @@ fn is_basis(token: &[u8]) -> bool
     token == b"basis".as_slice()
 }
 
+/// Whether the token begins a union line.
+fn is_union(token: &[u8]) -> bool
+    ensures { result ≡ is_union token.now }
+{
+    token == b"union".as_slice()
+}
+
+/// Whether the token begins a line of required words.
+fn is_require(token: &[u8]) -> bool
+    ensures { result ≡ is_require token.now }
+{
+    token == b"require".as_slice()
+}
+
+/// Whether the token begins a format line.
+fn is_format(token: &[u8]) -> bool
+    ensures { result ≡ is_format token.now }
+{
+    token == b"format".as_slice()
+}
+
 /// What the tokens of a line say, after lines that said what was seen.
 #[tactic(auto, unfolding(crate::specs::Read::tokens_said))]
 fn tokens_said(alloc: Global, seen: Seen, tokens: &[&[u8]]) -> Result<Says, LineFault>
@@ -120,6 +197,9 @@ fn tokens_said(alloc: Global, seen: Seen, tokens: &[&[u8]]) -> Result<Says, Line
         [] => Ok(Says::Nothing),
         [first, ..] if is_comment(first) => Ok(Says::Nothing),
         [first, words @ ..] if is_basis(first) => basis_said(alloc, seen, words),
+        [first, words @ ..] if is_union(first) => union_said(alloc, seen, words),
+        [first, words @ ..] if is_require(first) => require_said(alloc, seen, words),
+        [first, arguments @ ..] if is_format(first) => format_said(seen, arguments),
         [first, arguments @ ..] => Ok(Says::Asks(query_of(first, arguments)?)),
     }
 }

@@ -6,6 +6,7 @@ ghost use Rattle.av_text.specs.Ranges.{AsksInRange, KeepsLimits};
 ghost use Rattle.av_text.specs.Answers.{GivesScript};
 
 use crate::Kind;
+use crate::heard::Heard;
 use crate::limits::MAX_SCRIPT_BYTES;
 use crate::lines::Lines;
 use crate::queries::Query;
@@ -83,6 +84,14 @@ impl Queries {
 pub struct Script {
     /// The words of the basis line as they are written, neither sorted nor reduced: 0 to 64 words of 1 to 12 entries.
     pub basis: Words,
+    /// The words of the union line as they are written, likewise; or none where there is no such line. A word of the basis and one
+    /// of these have together at most 10 entries.
+    pub union_with: Option<Words>,
+    /// The required words of their line as they are written, neither sorted nor reduced: 0 to 64 words of 1 to 12 entries; or
+    /// none where there is no such line.
+    pub require: Option<Words>,
+    /// The format of the system: 1, or 2, which it is where there is no format line.
+    pub format: u8,
     /// The queries, in the order of their lines.
     pub queries: Queries,
 }
@@ -127,7 +136,8 @@ fn line_at(alloc: Global, number: u32, seen: Seen, line: &[u8]) -> Result<Says, 
 
 /// The script that a text is. `Refused` comes exactly where the text is none, with the line and the kind of its first
 /// fault. `Memory` comes only for want of memory. Every script that is read keeps the limits of the grammar: at most 64
-/// basis words of at most 12 entries, and, as [`Queries`] tells, each number and each word of a query in its range.
+/// basis words, at most 64 words of the union line and at most 64 required words, of at most 12 entries each, a basis word and one
+/// of the union line with together at most 10, and, as [`Queries`] tells, each number and each word of a query in its range.
 pub fn read_script(alloc: Global, bytes: &[u8]) -> Result<Script, ScriptError>
     ensures script { GivesScript result (read bytes.now) }
     ensures limits { IfOk result KeepsLimits }
@@ -138,26 +148,13 @@ pub fn read_script(alloc: Global, bytes: &[u8]) -> Result<Script, ScriptError>
             kind: Kind::TooLong,
         });
     }
-    let mut basis = None;
-    let mut queries = Queries::empty(alloc);
+    let mut heard = Heard::nothing(alloc);
     let mut lines = Lines::new(bytes);
     let mut number: u32 = 0;
     while let Some(line) = lines.next_line() {
         number += 1;
-        let seen = Seen {
-            basis: basis.is_some(),
-        };
-        match line_at(alloc, number, seen, line)? {
-            Says::Nothing => {}
-            Says::Basis(words) => basis = Some(words),
-            Says::Asks(query) => queries.push(query)?,
-        }
+        let said = line_at(alloc, number, heard.seen(), line)?;
+        heard.note(number, said)?;
     }
-    match basis {
-        Some(basis) => Ok(Script { basis, queries }),
-        None => Err(ScriptError::Refused {
-            line: 0,
-            kind: Kind::NoBasis,
-        }),
-    }
+    heard.script()
 }

@@ -2,7 +2,7 @@ use super::*;
 use av_perm::Memory;
 
 /// Texts that are refused, each with the line and the kind of its fault.
-static REFUSED: [(&str, u32, Kind); 97] = [
+static REFUSED: [(&str, u32, Kind); 104] = [
     // No basis line.
     ("", 0, Kind::NoBasis),
     ("\n", 0, Kind::NoBasis),
@@ -138,6 +138,14 @@ static REFUSED: [(&str, u32, Kind); 97] = [
     ("basis 132\n# note\nbasis 21", 3, Kind::SecondBasis),
     ("basis\nbasis", 2, Kind::SecondBasis),
     ("basis 132\nbasis 0 1111111111111", 2, Kind::SecondBasis),
+    // A second union line, whatever it has, and a union line whose words are too long beside those of the basis, last of all.
+    ("basis 12\nunion 21\nunion 21", 3, Kind::SecondUnion),
+    ("basis 12\nunion\nunion 122", 3, Kind::SecondUnion),
+    ("basis 12\nunion 122", 2, Kind::BadWord),
+    ("basis 132\nunion 12345678", 2, Kind::LongUnion),
+    ("union 12345678\ncount 3\nbasis 21 132", 1, Kind::LongUnion),
+    ("basis 132\nunion 12345678\ncount 0", 3, Kind::Range),
+    ("union 12345678", 0, Kind::NoBasis),
     // The first line that has a fault.
     ("cuont 7\nbasis 0", 1, Kind::UnknownQuery),
     ("basis 0\ncount \x07", 1, Kind::BadWord),
@@ -145,7 +153,10 @@ static REFUSED: [(&str, u32, Kind); 97] = [
 ];
 
 /// Texts that are scripts.
-const ACCEPTED: [&str; 9] = [
+const ACCEPTED: [&str; 12] = [
+    "basis 132\nunion 1234567",
+    "union\nbasis 132",
+    "basis\nunion 12345678",
     "basis",
     "basis\n",
     "basis 132\r",

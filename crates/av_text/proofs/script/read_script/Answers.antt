@@ -1,7 +1,12 @@
--- Each line turns what is read into what it says and what is read next.
-use Rattle.std.proofs.Common.{◌+◌, ap, arith, length}
+-- Each line turns what was heard into that and what it says, and the script is that of the lines that are left.
+use Rattle.std.proofs.Common.{◌+◌, ap, arith, length, subst, Result, Ok, Err, IfOk}
 use Rattle.std.proofs.lemmas.Result.{err_from_is_err_and}
-use Rattle.av_text.proofs.Reading.{read_long, read_short, turn_nothing, turn_basis, turn_query, exit_line, exit_end, exit_no_basis}
+use Rattle.av_text.specs.declared.script.Script.{Script}
+use Rattle.av_text.specs.declared.script.ScriptError.{ScriptError}
+use Rattle.av_text.specs.Read.{read}
+use Rattle.av_text.specs.Ranges.{KeepsLimits}
+use Rattle.av_text.specs.Answers.{GivesScript}
+use Rattle.av_text.proofs.Reading.{read_long, read_short, turn, exit_line, exit_end}
 use Rattle.av_text.proofs.Cuts.{lines_few}
 use Rattle.av_text.proofs.Kept.{read_kept}
 use Rattle.av_text.proofs.script.read_script.Goals as goal
@@ -14,47 +19,31 @@ loop-line-init c =
     let few = lines_few c.args.bytes.now in
     let same = c.new-lines.ensures in
     record {
-      read = rw (same, c.empty-queries.ensures) (read_short c.args.bytes.now c.if-bytes-gt-MAX_SCRIPT_BYTES.false);
+      read = rw (same, c.nothing-heard.ensures) (read_short c.args.bytes.now c.if-bytes-gt-MAX_SCRIPT_BYTES.false);
       few = rw same (omega (arith, few));
-    }
-
-pub loop-line-preserved-in-Nothing : goal.loop-line-preserved-in-Nothing
-loop-line-preserved-in-Nothing c =
-    let n = ap length c.in-Some.ensures in
-    record {
-      read = turn_nothing (c.loop-line.number + 1) c.loop-line.basis c.loop-line.queries _ _ _ _ _ _ c.in-Some.ensures c.is_some.ensures c.in_ok-line_at.ensures.value c.in-Nothing.is c.loop-line.invariant.read;
-      few = omega (arith, n);
-    }
-
-pub loop-line-preserved-in-Basis : goal.loop-line-preserved-in-Basis
-loop-line-preserved-in-Basis c =
-    let n = ap length c.in-Some.ensures in
-    record {
-      read = turn_basis (c.loop-line.number + 1) c.loop-line.basis c.loop-line.queries _ _ _ _ _ _ _ c.in-Some.ensures c.is_some.ensures c.in_ok-line_at.ensures.value c.in-Basis.is c.loop-line.invariant.read;
-      few = omega (arith, n);
     }
 
 pub loop-line-preserved : goal.loop-line-preserved
 loop-line-preserved c =
     let n = ap length c.in-Some.ensures in
     record {
-      read = rw c.in_ok-push-in-Asks.ensures.ok (turn_query (c.loop-line.number + 1) c.loop-line.basis c.loop-line.queries _ _ _ _ _ _ _ c.in-Some.ensures c.is_some.ensures c.in_ok-line_at.ensures.value c.in-Asks.is c.loop-line.invariant.read);
+      read = turn (c.loop-line.number + 1) c.loop-line.heard c.note.new.self _ _ _ _ _ _ c.in-Some.ensures c.seen.ensures c.in_ok-said.ensures.value c.in_ok-note.ensures c.loop-line.invariant.read;
       few = omega (arith, n);
     }
 
-pub returns-in_err-line_at-clause-script : goal.returns-in_err-line_at-clause-script
-returns-in_err-line_at-clause-script c =
+pub returns-in_err-said-clause-script : goal.returns-in_err-said-clause-script
+returns-in_err-said-clause-script c =
     let p = err_from_is_err_and c.from_residual.result c.from_residual.ensures.1 in
-    rw (p.1, p.2) (exit_line (c.loop-line.number + 1) c.loop-line.basis c.loop-line.queries _ _ _ _ c.in_err-line_at.field-0.0 _ c.in-Some.ensures c.is_some.ensures c.in_err-line_at.ensures.value c.loop-line.invariant.read)
+    rw (p.1, p.2) (exit_line (c.loop-line.number + 1) c.loop-line.heard _ _ _ _ c.in_err-said.field-0.0 _ c.in-Some.ensures c.seen.ensures c.in_err-said.ensures.value c.loop-line.invariant.read)
 
-pub returns-in-Some-basis-clause-script : goal.returns-in-Some-basis-clause-script
-returns-in-Some-basis-clause-script c =
-    exit_end (c.loop-line.number + 1) c.loop-line.basis c.in-Some-basis.basis c.loop-line.queries _ _ c.in_default.ensures c.in-Some-basis.is c.loop-line.invariant.read
+pub returns-clause-script : goal.returns-clause-script
+returns-clause-script c =
+    subst (GivesScript c.script.result) (exit_end (c.loop-line.number + 1) c.loop-line.heard _ _ c.in_default.ensures c.loop-line.invariant.read) c.script.ensures
 
-pub returns-in-Some-basis-clause-limits : goal.returns-in-Some-basis-clause-limits
-returns-in-Some-basis-clause-limits c =
-    read_kept c.args.bytes.now _ (exit_end (c.loop-line.number + 1) c.loop-line.basis c.in-Some-basis.basis c.loop-line.queries _ _ c.in_default.ensures c.in-Some-basis.is c.loop-line.invariant.read)
-
-pub returns-in-None-clause-script : goal.returns-in-None-clause-script
-returns-in-None-clause-script c =
-    exit_no_basis (c.loop-line.number + 1) c.loop-line.basis c.loop-line.queries _ _ c.in_default.ensures c.in-None.is c.loop-line.invariant.read
+pub returns-clause-limits : goal.returns-clause-limits
+returns-clause-limits c =
+    by c.script.result (subst (GivesScript c.script.result) (exit_end (c.loop-line.number + 1) c.loop-line.heard _ _ c.in_default.ensures c.loop-line.invariant.read) c.script.ensures)
+  where
+    by : (r : Result Script ScriptError) → GivesScript r (read c.args.bytes.now) → IfOk r KeepsLimits
+    by (Ok script) e = read_kept c.args.bytes.now script e
+    by (Err e) g = tt
