@@ -1,26 +1,25 @@
 -- The status of a script that was answered.
 use Rattle.std.proofs.Common.{◌≡◌, sym, subst}
-use Rattle.av_perm.specs.Class.{minimal}
 use Rattle.av_text.specs.declared.script.Script.{Script}
 use Rattle.av_session.specs.declared.options.Options.{Options}
 use Rattle.av_session.specs.declared.solving.Solved.{Solved}
 use Rattle.av_session.specs.declared.solving.Solved.TheVariants.{Unsettled, TooLarge, Settled}
 use Rattle.av_session.specs.declared.status.Status.{Status}
 use Rattle.av_session.specs.declared.status.Status.TheVariants as status
-use Rattle.av_session.specs.Solved.{solved, status_of}
+use Rattle.av_session.specs.Solved.{solved_script, status_of}
 use Rattle.av_session.specs.Status.{FitsScript, ComesAfterReading}
 
 -- the status of a script fits it
-pub fits_by : (s : Status) (o : Options) (script : Script) → s ≡ status_of (solved o (minimal script.basis)) → FitsScript s o script
+pub fits_by : (s : Status) (o : Options) (script : Script) → s ≡ status_of (solved_script o script) → FitsScript s o script
 fits_by s o script e = by s e
   where
-    by : (s : Status) → s ≡ status_of (solved o (minimal script.basis)) → FitsScript s o script
+    by : (s : Status) → s ≡ status_of (solved_script o script) → FitsScript s o script
     by status.Done f = sym f
     by status.Memory f = tt
     by status.Words f = tt
     by status.ReadFault f = tt
     by status.WriteFault f = tt
-    by status.Refused f = none (solved o (minimal script.basis)) f
+    by status.Refused f = none (solved_script o script) f
       where
         none : (c : Solved) → status.Refused ≡ status_of c → ⊥
         none (Unsettled found) g = cc

@@ -3,7 +3,7 @@
 use Rattle.std.proofs.Common.{◌≡◌, ℕ, zero, suc, ◌+◌, ◌*◌, ◌^◌, ◌<◌, ◌≤◌, List, [], ◌∷◌, length, get_or, refl, sym, ap, ap₂, ◌∙◌, subst, arith, Some}
 use Rattle.std.proofs.lemmas.Option.{slice_get-get_or}
 use Rattle.av_perm.specs.Members.{In, Once, IsListOf}
-use Rattle.av_perm.specs.Relations.{IsWord, InClassAt}
+use Rattle.av_perm.specs.Relations.{IsWord, InClassWithAt}
 use Rattle.av_perm.proofs.Membership.{In_at}
 use Rattle.av_perm.proofs.Pigeons.{pigeons}
 use Rattle.av_text.specs.declared.limits.TheConstants.{MAX_STATISTIC_LENGTH}
@@ -72,5 +72,5 @@ few_words ws n short once words =
     omega (arith, all, most_grows n MAX_STATISTIC_LENGTH short, most_of_longest)
 
 -- so are the permutations of such a length that avoid a basis
-pub few_members : (basis ws : List (List ℕ)) (n : ℕ) → n ≤ MAX_STATISTIC_LENGTH → IsListOf (InClassAt basis n) ws → length ws < 2 ^ 64
-few_members basis ws n short l = few_words ws n short l.once (λ w i. let c = (l.members w).0 i in (c.member.word, c.long))
+pub few_members : (basis required ws : List (List ℕ)) (n : ℕ) → n ≤ MAX_STATISTIC_LENGTH → IsListOf (InClassWithAt basis required n) ws → length ws < 2 ^ 64
+few_members basis required ws n short l = few_words ws n short l.once (λ w i. let c = (l.members w).0 i in (c.member.member.word, c.long))

@@ -1,15 +1,23 @@
--- The members that are picked, each with its rank, and how many members have a value of a statistic.
-use Rattle.std.proofs.Common.{◌≡◌, ℕ, zero, suc, ◌+◌, ◌-◌, ◌^◌, ◌<◌, ◌≤◌, inl, inr, List, [], ◌∷◌, length, take, filter, slice_get, Bool, true, false, cond, nat_eq, Some, None, refl, sym, ap, ◌∙◌, subst, arith, eq-eqb, eqb-true}
+-- The members that are picked, each with its rank, and the bars that say how many members have each value of a statistic.
+use Rattle.std.proofs.Common.{◌≡◌, ℕ, zero, suc, ◌+◌, ◌-◌, ◌^◌, ◌<◌, ◌≤◌, inl, inr, List, [], ◌∷◌, length, map, take, filter, slice_get, Bool, true, false, cond, nat_eq, Some, None, refl, sym, ap, ◌∙◌, subst, arith, eq-eqb, eqb-true}
 use Rattle.std.proofs.lemmas.List.{length-map, take_all}
+use Rattle.std.specs.Ordering.{nat_cmp}
 use Rattle.av_perm.specs.Members.{In, Once, Ascending, IsListOf}
-use Rattle.av_perm.specs.Relations.{InClassAt}
+use Rattle.av_perm.specs.Relations.{InClassWithAt}
 use Rattle.av_perm.specs.Stat.{statistic_of}
 use Rattle.av_perm.specs.declared.StatKind.{StatKind}
 use Rattle.av_perm.proofs.Ascending.{ascending_filter, nat_cmp_less}
-use Rattle.av_perm.proofs.Membership.{In_filter, filter_In}
+use Rattle.av_perm.proofs.Membership.{In_filter, filter_In, In_map}
 use Rattle.av_list.specs.Items.{ranked, items_from}
+use Rattle.av_count.proofs.Members.{map_map}
+use Rattle.av_stat.specs.declared.bars.Bar.{Bar}
 use Rattle.av_stat.specs.Histograms.{bars, how_many, words_of}
 use Rattle.av_stat.proofs.Histograms.{histogram_law}
+use Rattle.av_text.specs.declared.queries.DistKind.{DistKind}
+use Rattle.av_text.specs.Queries.{stat_kind}
+use Rattle.av_dist.specs.Distributions.{distribution_of}
+use Rattle.av_dist.specs.Laws.{pair_of, histogram_pair}
+use Rattle.av_dist.proofs.DistributionLaws.{same_histogram_law}
 use Rattle.av_session.specs.Answers.{picked}
 use Rattle.av_session.specs.Runs.{by_rank, ArePicked, IsCountOf, HasBars}
 
@@ -67,9 +75,9 @@ once_filter {A} p (x ∷ xs) o = by (p x) (once_filter p xs o.1)
     by false more = more
 
 -- how many of the members have a value
-is_count : (basis ws : List (List ℕ)) (t : StatKind) (n v : ℕ) → IsListOf (InClassAt basis n) ws → IsCountOf basis t n v (how_many t ws v)
+is_count : (basis required ws : List (List ℕ)) (t : StatKind) (n v : ℕ) → IsListOf (InClassWithAt basis required n) ws → IsCountOf basis required t n v (how_many t ws v)
 unfolding how_many
-is_count basis ws t n v l = record {
+is_count basis required ws t n v l = record {
   words = filter (λ w. nat_eq (statistic_of t w) v) ws;
   listed = record {
     members = λ σ. (
@@ -81,15 +89,31 @@ is_count basis ws t n v l = record {
   many = refl;
 }
 
--- the bars are those of the class
-pub has_bars : (basis ws : List (List ℕ)) (t : StatKind) (n : ℕ) → IsListOf (InClassAt basis n) ws → HasBars basis t n (bars t ws)
-has_bars basis ws t n l =
+-- the values of bars
+values_of : (bs : List Bar) → map (λ (b : ℕ × ℕ). b.0) (map histogram_pair bs) ≡ map (λ (b : Bar). b.value) bs
+values_of bs = map_map (λ (b : ℕ × ℕ). b.0) histogram_pair bs
+
+-- the bars of a histogram are those of the class
+pub has_bars : (basis required ws : List (List ℕ)) (t : StatKind) (n : ℕ) → IsListOf (InClassWithAt basis required n) ws
+    → HasBars basis required t n (map histogram_pair (bars t ws))
+has_bars basis required ws t n l =
     let h = histogram_law t ws in
     record {
-      increasing = h.increasing;
-      counted = λ b i. let c = h.counted b i in (omega (arith, c.1), subst (IsCountOf basis t n b.value) (sym c.0) (is_count basis ws t n b.value l));
-      whole = λ σ c. h.whole σ ((l.members σ).1 c);
+      increasing = subst (Ascending nat_cmp) (sym (values_of (bars t ws))) h.increasing;
+      counted = λ b i.
+          let own = In_map histogram_pair (bars t ws) b i in
+          let c = h.counted own.0 own.1 in
+          let many : how_many t ws own.0.value ≡ own.0.count = sym c.0 in
+          subst (λ (z : ℕ × ℕ). (1 ≤ z.1) × IsCountOf basis required t n z.0 z.1) (sym own.2)
+          (omega (arith, c.1), subst (IsCountOf basis required t n own.0.value) many (is_count basis required ws t n own.0.value l));
+      whole = λ σ c. subst (In (statistic_of t σ)) (sym (values_of (bars t ws))) (h.whole σ ((l.members σ).1 c));
     }
+
+-- and so are those of a distribution, which has the values and the counts of the histogram
+pub has_distribution : (basis required ws : List (List ℕ)) (k : DistKind) (n : ℕ) → IsListOf (InClassWithAt basis required n) ws
+    → HasBars basis required (stat_kind k) n (map pair_of (distribution_of k ws))
+has_distribution basis required ws k n l =
+    subst (HasBars basis required (stat_kind k) n) (sym (same_histogram_law k ws)) (has_bars basis required ws (stat_kind k) n l)
 
 -- the words of the first k of some words with their ranks
 taken_words : (k : ℕ) (ws : List (List ℕ)) (r : ℕ) → words_of (take k (ranked r ws)) ≡ take k ws

@@ -2,7 +2,6 @@
 use Rattle.std.proofs.Common.{◌≡◌, ℕ, ◌<◌, ◌≤◌, ◌⊎◌, inl, inr, List, [], ◌++◌, length, Option, Some, None, IfSome, Result, Ok, Err, append-nil, length-append, refl, sym, ap, ◌∙◌, subst, arith}
 use Rattle.std.proofs.lemmas.Bool.{cases_lt, lt-ltb}
 use Rattle.std.specs.Io.KnownBytes.{IsAtEnd}
-use Rattle.av_perm.specs.Class.{minimal}
 use Rattle.av_text.specs.declared.limits.TheConstants.{MAX_SCRIPT_BYTES}
 use Rattle.av_text.specs.declared.script.Script.{Script}
 use Rattle.av_text.specs.declared.kind.Kind.TheVariants.{TooLong}
@@ -12,7 +11,7 @@ use Rattle.av_session.specs.declared.options.Options.{Options}
 use Rattle.av_session.specs.declared.status.Status.{Status}
 use Rattle.av_session.specs.declared.status.Status.TheVariants as status
 use Rattle.av_session.specs.Taken.{TakesAll}
-use Rattle.av_session.specs.Solved.{solved, status_of}
+use Rattle.av_session.specs.Solved.{solved_script, status_of}
 use Rattle.av_session.specs.Due.{text_due, text_of}
 use Rattle.av_session.specs.Status.{HoldsText, FitsText, FitsRead, FitsScript}
 use Rattle.av_session.specs.Options.{options}
@@ -131,7 +130,7 @@ complete_by s left words R W no_words read_rose write_rose fits bytes o script c
     told None e f = absurd (cc)
     told (Some all) e f = let same : all ≡ bytes = cc in subst (λ b. Fits_of s (options words) b) same f
 
-    done : status_of (solved o (minimal script.basis)) ≡ status.Done
+    done : status_of (solved_script o script) ≡ status.Done
     done = rw settled refl
 
     here : FitsScript s o script

@@ -10,15 +10,15 @@ use Rattle.av_text.specs.Lines.{script_lines, tokens}
 use Rattle.av_text.specs.Numerals.{is_digits, is_numeral, number_in}
 use Rattle.av_text.specs.Words.{is_comma_form, entries_of, checked_word, word_in}
 use Rattle.av_text.specs.Queries.{form_named, query_with_one, query_with, query_of}
-use Rattle.av_text.specs.Read.{basis_words, basis_said, tokens_said, line_said, lines_said, read}
-use Rattle.av_print.specs.Text.{word_text, words_text, query_text}
+use Rattle.av_text.specs.Read.{patterns, patterns_once, tokens_said, line_said, lines_said, read}
+use Rattle.av_print.specs.Text.{joined_or_none, word_text, words_text, query_text}
 use Rattle.av_session.specs.Options.{cut, set_once, choose, choose_all, options, default_options}
 use Rattle.av_session.specs.Answers.{answer_text}
 use Rattle.av_session.specs.Due.{header_text, settled_header, settled_text, unsettled_text, script_text, fault_text, text_due}
 
 -- a text that is no script
 refused : text_due default_options (codes "basis 132\ncount 161\n") ≡ codes "fault 2 7\n"
-unfolding digits choices arrangements contains is_simple simples gap script_lines tokens is_digits is_numeral number_in is_comma_form entries_of checked_word word_in form_named query_with_one query_with query_of basis_words basis_said tokens_said line_said lines_said read word_text words_text query_text header_text answer_text settled_header settled_text unsettled_text script_text fault_text text_due
+unfolding digits joined_or_none choices arrangements contains is_simple simples gap script_lines tokens is_digits is_numeral number_in is_comma_form entries_of checked_word word_in form_named query_with_one query_with query_of patterns patterns_once tokens_said line_said lines_said read word_text words_text query_text header_text answer_text settled_header settled_text unsettled_text script_text fault_text text_due
 refused = refl
 
 -- the words of a command line

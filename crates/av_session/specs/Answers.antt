@@ -1,6 +1,6 @@
 -- The answers of the queries about a settled class.
-use Rattle.std.specs.Prelude.{◌≡◌, ℕ, Bool, ◌^◌, ◌==◌, List, [], ◌∷◌, length, take, drop, flat_map, filter, find, slice_get, nat_lt, if◌then◌else◌, Option, Some, None, codes, decimal}
-use Rattle.std.specs.List.{position, join_by}
+use Rattle.std.specs.Prelude.{◌≡◌, ℕ, Bool, not, ◌^◌, ◌==◌, List, [], length, take, drop, flat_map, filter, find, slice_get, nat_lt, if◌then◌else◌, Option, Some, None, codes, decimal}
+use Rattle.std.specs.List.{position}
 use Rattle.av_perm.specs.Lists.{same, counting}
 use Rattle.av_perm.specs.declared.StatKind.{StatKind}
 use Rattle.av_perm.specs.Stat.{statistic_of}
@@ -12,12 +12,12 @@ use Rattle.av_count.specs.declared.count.Count.{Count}
 use Rattle.av_count.specs.declared.count.Count.TheVariants.{Known, Over}
 use Rattle.av_count.specs.Counts.{capped}
 use Rattle.av_list.specs.Items.{items_from}
-use Rattle.av_stat.specs.declared.bars.Bar.{Bar}
 use Rattle.av_stat.specs.Histograms.{bars}
+use Rattle.av_dist.specs.Distributions.{dist}
 use Rattle.av_text.specs.declared.queries.Query.{Query}
 use Rattle.av_text.specs.declared.queries.Query.TheVariants as query
-use Rattle.av_print.specs.Text.{◌⊹◌, word_text, places_text, ranked_text, count_text, query_text, tree_text}
-use Rattle.av_session.specs.Classes.{Class}
+use Rattle.av_print.specs.Text.{◌⊹◌, word_text, places_text, ranked_text, count_text, bars_text, dist_bars_text, query_text, tree_text}
+use Rattle.av_session.specs.Classes.{Class, required_of}
 use Rattle.av_session.specs.Drawing.{draws, drawn_values, summary_text}
 
 -- an answer of one line: the query, and what is answered
@@ -62,10 +62,24 @@ bad_text w None = []
 abbrev pub rank_text : ℕ → List ℕ
 rank_text r = if nat_lt r (2 ^ 128) then decimal r else codes "big"
 
--- the rank of a word, its place among the members of its length; or the first word of the basis that it contains
+-- the required word that a word lacks
+abbrev pub lacks_text : Option (List ℕ) → List ℕ
+lacks_text (Some q) = codes "lacks " ⊹ word_text q
+lacks_text None = []
+
+-- the first word of the basis that a word contains; or where it contains none, the first required word that it lacks
+abbrev pub strange_text : List ℕ → Option (List ℕ) → Option (List ℕ) → List ℕ
+strange_text w (Some b) lacking = bad_text w (Some b)
+strange_text w None lacking = lacks_text lacking
+
+-- the first required word that a word doesn't contain
+abbrev pub first_lacking : List ℕ → List (List ℕ) → Option (List ℕ)
+first_lacking w required = find (λ q. not (contains w q)) required
+
+-- the rank of a word, its place among the members of its length; or why it has none
 abbrev pub place_text : Class → List ℕ → Option ℕ → List ℕ
 place_text class w (Some r) = rank_text r
-place_text class w None = bad_text w (find (contains w) class.found.basis)
+place_text class w None = strange_text w (find (contains w) class.subject.found.basis) (first_lacking w (required_of class.subject))
 
 -- the place of a word among the members of its length
 abbrev pub place_among : System → List ℕ → Option ℕ
@@ -80,22 +94,13 @@ abbrev pub drawn_answer : Query → Count → List ℕ → List ℕ
 drawn_answer q Over text = one_line q (codes "over")
 drawn_answer q (Known c) text = if c == 0 then one_line q (codes "none of 0") else text
 
--- a bar: a value, and how many have it
-abbrev pub bar_text : Bar → List ℕ
-bar_text b = decimal b.value ⊹ codes ":" ⊹ decimal b.count
-
--- bars joined by single spaces, or `none`
-unfoldable pub bars_text : List Bar → List ℕ
-bars_text [] = codes "none"
-bars_text (b ∷ bs) = join_by bar_text (codes " ") (b ∷ bs)
+-- a closure whose answers on a word are these answers this test
+abbrev pub Tells : (List ℕ → Bool → Type 0) → (List ℕ → Bool) → Type 0
+Tells answers p = (w : List ℕ) (b : Bool) → answers w b → b ≡ p w
 
 -- the rows whose word passes a test, in their order
 abbrev pub kept : (List ℕ → Bool) → List (ℕ × List ℕ) → List (ℕ × List ℕ)
 kept p rows = filter (λ (row : ℕ × List ℕ). p row.1) rows
-
--- a closure whose answers on a word are these answers this test
-abbrev pub Tells : (List ℕ → Bool → Type 0) → (List ℕ → Bool) → Type 0
-Tells answers p = (w : List ℕ) (b : Bool) → answers w b → b ≡ p w
 
 -- their lines
 unfoldable pub kept_text : (List ℕ → Bool) → List (ℕ × List ℕ) → List ℕ
@@ -129,8 +134,10 @@ answer_text class (query.DrawStat t n s k) =
     (one_line (query.DrawStat t n s k) (summary_text (drawn_values t (draws (members class.system n) s k))))
 answer_text class (query.Stat t n) = one_line (query.Stat t n) (bars_text (bars t (members class.system n)))
 answer_text class (query.Pick t v n) = query_text (query.Pick t v n) ⊹ codes " =\n" ⊹ picked_text class.system t v n ⊹ codes "end\n"
+answer_text class (query.Dist k n) = one_line (query.Dist k n) (dist_bars_text (dist k class.system n))
 
--- the greatest length at which a query asks of the members; none for the tree of a word
+-- the greatest length at which a query asks of the members, one by one or how many they are; none for the tree of a word, and for
+-- a distribution
 abbrev pub length_needed : Query → ℕ
 length_needed (query.Count n) = n
 length_needed (query.Counts n) = n
@@ -142,3 +149,4 @@ length_needed (query.Draw n s k) = n
 length_needed (query.DrawStat t n s k) = n
 length_needed (query.Stat t n) = n
 length_needed (query.Pick t v n) = n
+length_needed (query.Dist k n) = 0

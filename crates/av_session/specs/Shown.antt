@@ -5,7 +5,7 @@ use Rattle.av_session.specs.declared.draws.Summary.{Summary}
 use Rattle.av_session.specs.declared.ranks.Unranked.{Unranked}
 use Rattle.av_session.specs.declared.ranks.Unranked.TheVariants.{Member, NoneOf}
 use Rattle.av_session.specs.declared.ranks.Place.{Place}
-use Rattle.av_session.specs.declared.ranks.Place.TheVariants.{At, Big, Bad}
+use Rattle.av_session.specs.declared.ranks.Place.TheVariants.{At, Big, Bad, Lacks}
 
 abbrev pub unranked_shown : Unranked → List ℕ
 unranked_shown (Member w) = word_text w
@@ -15,6 +15,7 @@ abbrev pub place_shown : Place → List ℕ
 place_shown (At r) = decimal r
 place_shown Big = codes "big"
 place_shown (Bad pattern places) = codes "no " ⊹ word_text pattern.now ⊹ codes " at " ⊹ places_text places
+place_shown (Lacks pattern) = codes "lacks " ⊹ word_text pattern.now
 
 abbrev pub summary_shown : Summary → List ℕ
 summary_shown s = codes "least " ⊹ decimal s.least ⊹ codes " most " ⊹ decimal s.most ⊹ codes " total " ⊹ decimal s.total

@@ -1,14 +1,13 @@
 -- The statuses of a run: when each comes, and what the sink holds then.
 use Rattle.std.specs.Prelude.{◌≡◌, ℕ, List, Option, Result, Ok, Err}
 use Rattle.std.specs.Io.KnownBytes.{Appends, Keeps}
-use Rattle.av_perm.specs.Class.{minimal}
 use Rattle.av_text.specs.declared.script.Script.{Script}
 use Rattle.av_text.specs.Read.{Fault, read}
 use Rattle.av_print.specs.Wrote.{AppendsPart}
 use Rattle.av_session.specs.declared.options.Options.{Options}
 use Rattle.av_session.specs.declared.status.Status.{Status}
 use Rattle.av_session.specs.declared.status.Status.TheVariants as status
-use Rattle.av_session.specs.Solved.{solved, status_of}
+use Rattle.av_session.specs.Solved.{solved_script, status_of}
 
 -- what is held beyond what was held before, where this text is due
 abbrev pub HoldsText : Status → Option (List ℕ) → Option (List ℕ) → List ℕ → Type 0
@@ -23,9 +22,9 @@ HoldsText status.TooLarge old new text = Appends old new text
 
 -- the status may come where the source has this script: Done, TooLarge and Unsettled exactly by what is known of its class
 abbrev pub FitsScript : Status → Options → Script → Type 0
-FitsScript status.Done options script = status_of (solved options (minimal script.basis)) ≡ status.Done
-FitsScript status.TooLarge options script = status_of (solved options (minimal script.basis)) ≡ status.TooLarge
-FitsScript status.Unsettled options script = status_of (solved options (minimal script.basis)) ≡ status.Unsettled
+FitsScript status.Done options script = status_of (solved_script options script) ≡ status.Done
+FitsScript status.TooLarge options script = status_of (solved_script options script) ≡ status.TooLarge
+FitsScript status.Unsettled options script = status_of (solved_script options script) ≡ status.Unsettled
 FitsScript status.Refused options script = ⊥
 FitsScript _ options script = Unit {0}
 

@@ -17,7 +17,7 @@ use crate::listing::put_list;
 use crate::members::{CountsTo, member_count};
 use crate::ranks::{place_of, word_at};
 use crate::solving::SettledClass;
-use crate::statistics::{BarsText, histogram_of, put_pick};
+use crate::statistics::{distribution_of, histogram_of, put_pick};
 use crate::stop::Stop;
 use crate::waiting::put_text;
 use av_count::{Count, Table};
@@ -28,7 +28,8 @@ use av_print::{Bytes, Text};
 use av_text::{Queries, Query};
 use std::alloc::Global;
 
-/// The greatest length at which a query asks of the members of the class; 0 for the tree of a word.
+/// The greatest length at which a query asks of the members of the class, one by one or how many they are; 0 for the tree of a
+/// word, and for a distribution.
 fn length_needed(query: &Query) -> usize
     requires { IsInRange query.now }
     ensures value { result ≡ length_needed query.now }
@@ -38,7 +39,7 @@ fn length_needed(query: &Query) -> usize
         Query::Count { n } | Query::Counts { n } => usize::from(*n),
         Query::List { n, .. } | Query::Unrank { n, .. } => usize::from(*n),
         Query::Rank { word } => word.len(),
-        Query::Tree { .. } => 0,
+        Query::Tree { .. } | Query::Dist { .. } => 0,
         Query::Draw { n, .. } | Query::DrawStat { n, .. } => usize::from(*n),
         Query::Stat { n, .. } | Query::Pick { n, .. } => usize::from(*n),
     }
@@ -292,12 +293,16 @@ fn put_answer<K: Sink>(
         Query::Stat { kind, n } => {
             let n = usize::from(*n);
             let bars = histogram_of(alloc, class, needed(class, table, n), *kind, n)?;
-            put_line(sink, waiting, query, &BarsText { bars: &bars })
+            put_line(sink, waiting, query, &bars)
         }
         Query::Pick { kind, value, n } => {
             let n = usize::from(*n);
             let table = needed(class, table, n);
             put_pick(alloc, sink, waiting, class, table, query, *kind, *value, n)
+        }
+        Query::Dist { kind, n } => {
+            let bars = distribution_of(alloc, class, *kind, usize::from(*n))?;
+            put_line(sink, waiting, query, &bars)
         }
     }
 }

@@ -67,7 +67,7 @@ const EMPTY_CLASS: &[u8] = b"permspec 1
 basis 1
 simples 4:0 5:0
 gap 4
-system 1 equations 1 terms 0
+system 2 equations 1 terms 0
 E0 C avoid 1 require none = none
 end
 ";
@@ -105,7 +105,7 @@ fn scripts_that_are_cut_short(rt: HostRuntime) -> Result<(), Fail> {
     Ok(())
 }
 
-static FAULTS: [(&str, &str); 19] = [
+static FAULTS: [(&str, &str); 30] = [
     ("BASIS 132\n", "fault 1 5\n"),
     ("basis 0\n", "fault 1 2\n"),
     ("basis 1224\n", "fault 1 2\n"),
@@ -118,13 +118,27 @@ static FAULTS: [(&str, &str); 19] = [
     ("basis 132\nlist 3 from\n", "fault 2 5\n"),
     ("basis 132\nlist 3 for 2 from 1\n", "fault 2 5\n"),
     ("basis 132\nstat foo 3\n", "fault 2 5\n"),
+    ("basis 132\ndist lrm 3\n", "fault 2 5\n"),
     ("basis 132\ncount x\n", "fault 2 6\n"),
     ("basis 132\nlist 3 for 0\n", "fault 2 7\n"),
     ("basis 132\ndraw 3 18446744073709551616 1\n", "fault 2 7\n"),
     ("basis 132\nstat inv 13\n", "fault 2 7\n"),
     ("basis 132\npick inv 12721 3\n", "fault 2 7\n"),
+    ("basis 132\ndist inv 25\n", "fault 2 7\n"),
     ("basis 132\nrank 122\n", "fault 2 2\n"),
     ("basis 132\nrank 1,2,,3\n", "fault 2 2\n"),
+    ("basis 21\nrequire 321\nrequire 12\n", "fault 3 11\n"),
+    ("require 122\nbasis 21\n", "fault 1 2\n"),
+    (
+        "basis 21\nrequire 1,2,3,4,5,6,7,8,9,10,11,12,13\n",
+        "fault 2 3\n",
+    ),
+    ("basis 21\nformat\n", "fault 2 5\n"),
+    ("basis 21\nformat 2\nformat 1\n", "fault 3 12\n"),
+    ("basis 21\nformat 3\n", "fault 2 7\n"),
+    ("basis 132\nunion 12345678\n", "fault 2 14\n"),
+    ("union 12345678\n", "fault 0 1\n"),
+    ("basis 12\nunion 21\nunion 21\n", "fault 3 15\n"),
 ];
 
 // Nothing but the line of the fault is written.
@@ -135,6 +149,23 @@ fn the_first_fault_of_a_script_is_answered(rt: HostRuntime) -> Result<(), Fail> 
         assert!(rt; ended.status == Status::Refused, "{script}");
         assert!(rt; ended.held.as_slice() == line.as_bytes(), "{script}");
     }
+    Ok(())
+}
+
+// The longest words of the two lists have together ten entries, as many as may be.
+#[test]
+fn a_union_of_words_as_long_as_can_be(rt: HostRuntime) -> Result<(), Fail> {
+    let ended = run_script(
+        rt.alloc(),
+        &["--max-simple=5"],
+        b"basis 132\nunion 1234567\n",
+    )?;
+    assert!(rt; ended.status != Status::Refused);
+    assert!(rt;
+        ended
+            .held
+            .starts_with(b"permspec 1\nunion 132 with 1234567\n")
+    );
     Ok(())
 }
 

@@ -23,6 +23,7 @@ mod solving;
 mod statistics;
 mod status;
 mod stop;
+mod subject;
 #[cfg(test)]
 mod tests;
 mod texts;
@@ -32,4 +33,5 @@ mod waiting;
 pub use options::{Options, WordsError, read_words};
 pub use solving::{SettledClass, Solved, solve};
 pub use status::Status;
+pub use subject::{Subject, United};
 pub use top::run;

@@ -1,16 +1,18 @@
 // The answers about one member: that at a rank, and the rank of a word.
 ghost use Rattle.std.specs.Prelude.{◌≡◌, ◌≤◌, length, slice_get, find};
+ghost use Rattle.std.specs.Option.{option_map};
 ghost use Rattle.av_perm.specs.Contain.{contains};
-ghost use Rattle.av_perm.specs.Relations.{InClass};
+ghost use Rattle.av_perm.specs.Relations.{InClassWith};
 ghost use Rattle.av_sys.specs.TreeLists.{members};
-ghost use Rattle.av_session.specs.Answers.{member_count, unranked_text, bad_text, place_text, place_among};
+ghost use Rattle.av_session.specs.Classes.{required_of};
+ghost use Rattle.av_session.specs.Answers.{member_count, unranked_text, strange_text, first_lacking, place_text, place_among};
 ghost use Rattle.av_session.specs.Shown.{unranked_shown, place_shown};
 
 use crate::members::member_count;
 use crate::solving::SettledClass;
 use av_count::{Count, Table};
 use av_io::{Sink, SinkFault};
-use av_match::{Places, first_bad};
+use av_match::{Places, contains, first_bad};
 use av_perm::Perm;
 use av_print::{Bytes, Number, Text};
 use av_tree::{Ranked, rank, unrank};
@@ -57,13 +59,15 @@ pub enum Place<'a> {
     At(u128),
     /// It has a rank of 2^128 or more.
     Big,
-    /// It isn't a member: the first word of the basis that it contains, and the places of the first occurrence.
+    /// It contains a word of the basis: the first that it contains, and the places of the first occurrence.
     Bad {
         /// The word of the basis.
         pattern: &'a Perm,
         /// Where it is contained.
         places: Places,
     },
+    /// It contains none, and lacks a required word, of which this is the first.
+    Lacks(&'a Perm),
 }
 
 impl Text for Place<'_> {
@@ -78,24 +82,35 @@ impl Text for Place<'_> {
             Place::Bad { pattern, places } => {
                 (Bytes(b"no "), *pattern, Bytes(b" at "), places).put_on(sink)
             }
+            Place::Lacks(pattern) => (Bytes(b"lacks "), *pattern).put_on(sink),
         }
     }
 }
 
-/// The first word of the basis that a word contains which isn't a member, and where.
-fn bad<'a>(class: &'a SettledClass, word: &Perm) -> Place<'a>
-    requires { InClass class.now.found.basis word.now → ⊥ }
-    ensures { place_shown result ≡ bad_text word.now (find (contains word.now) class.now.found.basis) }
+/// The first word of a list that a word doesn't contain.
+fn first_lacking<'a>(word: &Perm, required: &'a [Perm]) -> Option<&'a Perm>
+    ensures { option_map (λ q. q.now) result ≡ first_lacking word.now required.now }
+{
+    required.iter().find(|pattern| !contains(word, *pattern))
+}
+
+/// Why a word isn't a member: the first word of the basis that it contains, and where; or where it contains none the first
+/// required word that it lacks.
+fn strange<'a>(class: &'a SettledClass, word: &Perm) -> Place<'a>
+    requires { InClassWith class.now.subject.found.basis (required_of class.now.subject) word.now → ⊥ }
+    ensures { place_shown result ≡ strange_text word.now (find (contains word.now) class.now.subject.found.basis) (first_lacking word.now (required_of class.now.subject)) }
 {
     let _len = word.len();
-    let basis = class.found().basis();
-    match first_bad(word, basis) {
-        Some(bad) => {
-            return Place::Bad {
-                pattern: basis.get(bad.index),
-                places: bad.places,
-            };
-        }
+    let subject = class.subject();
+    let basis = subject.basis();
+    if let Some(bad) = first_bad(word, basis) {
+        return Place::Bad {
+            pattern: basis.get(bad.index),
+            places: bad.places,
+        };
+    }
+    match first_lacking(word, subject.required()) {
+        Some(pattern) => Place::Lacks(pattern),
         None => unreachable!(),
     }
 }
@@ -110,6 +125,6 @@ pub fn place_of<'a>(class: &'a SettledClass, table: &Table, word: &Perm) -> Plac
     match rank(class.system(), table, word) {
         Ranked::At(r) => Place::At(r),
         Ranked::Big => Place::Big,
-        Ranked::Stranger => bad(class, word),
+        Ranked::Stranger => strange(class, word),
     }
 }

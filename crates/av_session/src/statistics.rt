@@ -1,7 +1,6 @@
-// A statistic of each member of a length: how many members have each value, and the members that have one value.
-ghost use Rattle.std.specs.Prelude.{◌≡◌, ◌≤◌, ◌++◌, ◌==◌, ℕ, List, Bool, IsTrue, flat_map, IfOk, OnOk, IsErrOf, codes};
+// A statistic over the members of a length: how many members have each value, and the members that have one value.
+ghost use Rattle.std.specs.Prelude.{◌≡◌, ◌≤◌, ◌++◌, ◌==◌, ℕ, List, Bool, IsTrue, IfOk, OnOk, IsErrOf, codes};
 ghost use Rattle.std.specs.Fn.{FnReturnsAt};
-ghost use Rattle.std.specs.Io.KnownBytes.{Appends};
 ghost use Rattle.av_io.specs.Causes.{Rose};
 ghost use Rattle.av_io.specs.Passed.{PassesOn};
 ghost use Rattle.av_print.specs.Wrote.{AppendsPart};
@@ -10,18 +9,20 @@ ghost use Rattle.av_perm.specs.Word.{is_perm};
 ghost use Rattle.av_perm.specs.Stat.{statistic_of};
 ghost use Rattle.av_sys.specs.TreeLists.{members};
 ghost use Rattle.av_stat.specs.Histograms.{bars};
-ghost use Rattle.av_session.specs.Answers.{bar_text, Tells, kept_text, picked_text};
+ghost use Rattle.av_dist.specs.Distributions.{dist};
+ghost use Rattle.av_session.specs.Answers.{Tells, kept_text, picked_text};
 
 use crate::solving::SettledClass;
 use crate::stop::Stop;
 use crate::waiting::put_text;
 use av_count::Table;
-use av_io::{Sink, SinkFault, SureSink};
+use av_dist::{DistBars, DistTable, distribution};
+use av_io::{Sink, SureSink};
 use av_list::{Lister, Sieve};
 use av_perm::{Memory, Perm, StatKind, statistic};
-use av_print::{Bytes, Number, RankedWord, Text, put};
-use av_stat::{Bar, Bars, Stat, histogram};
-use av_text::{MAX_STATISTIC_LENGTH, Query};
+use av_print::{Bytes, RankedWord};
+use av_stat::{Bars, Stat, histogram};
+use av_text::{DistKind, MAX_DISTRIBUTION_LENGTH, MAX_STATISTIC_LENGTH, Query};
 use std::alloc::Global;
 
 /// How many members of length n have each value of a statistic.
@@ -43,82 +44,19 @@ pub fn histogram_of(
     histogram(alloc, &stat, lister)
 }
 
-/// A bar, whose text is its value and how many have it, with a colon between them.
-#[derive(Clone, Copy)]
-struct BarText<'a> {
-    bar: &'a Bar,
-}
-
-impl Text for BarText<'_> {
-    ghost use Rattle.av_session.specs.Answers.{bar_text};
-
-    ghost text = { λ shown. bar_text shown.bar.now };
-
-    fn put_on<K: Sink>(&self, sink: &mut K) -> Result<(), SinkFault> {
-        let value = Number(u128::from(self.bar.value));
-        let count = Number(u128::from(self.bar.count));
-        (value, Bytes(b":"), count).put_on(sink)
-    }
-}
-
-/// Writes each bar after a space.
-fn put_other_bars<K: Sink>(sink: &mut K, bars: &[Bar]) -> Result<(), SinkFault>
-    ensures whole { OnOk result (Appends (K.held sink.old) (K.held sink.new) (flat_map (λ b. codes " " ++ bar_text b) bars.now)) }
-    ensures part { AppendsPart (K.held sink.old) (K.held sink.new) (flat_map (λ b. codes " " ++ bar_text b) bars.now) }
-    ensures later { K.faults sink.old ≤ K.faults sink.new }
-    ensures wants_later { K.wants sink.old ≤ K.wants sink.new }
-    ensures failed { IsErrOf result SinkFault.Failed → Rose (K.faults sink.old) (K.faults sink.new) }
-    ensures memory { IsErrOf result SinkFault.Memory → Rose (K.wants sink.old) (K.wants sink.new) }
+/// How many members of length n have each number of inversions, or of descents.
+pub fn distribution_of(
+    alloc: Global,
+    class: &SettledClass,
+    kind: DistKind,
+    n: usize,
+) -> Result<DistBars, Memory>
+    requires least { 1 ≤ n }
+    requires most { n ≤ MAX_DISTRIBUTION_LENGTH }
+    ensures { IfOk result (λ bs. bs ≡ dist kind class.now.system n) }
 {
-    for bar in bars {
-        (Bytes(b" "), BarText { bar }).put_on(sink)?;
-    }
-    Ok(())
-}
-
-/// Bars, whose text has single spaces between them.
-#[derive(Clone, Copy)]
-struct JoinedBars<'a> {
-    bars: &'a [Bar],
-}
-
-impl Text for JoinedBars<'_> {
-    ghost use Rattle.std.specs.Prelude.{codes};
-    ghost use Rattle.std.specs.List.{join_by};
-    ghost use Rattle.av_session.specs.Answers.{bar_text};
-
-    ghost text = { λ shown. join_by bar_text (codes " ") shown.bars.now };
-
-    #[tactic(auto, using(av_print::proofs::Written::written))]
-    fn put_on<K: Sink>(&self, sink: &mut K) -> Result<(), SinkFault> {
-        match self.bars {
-            [] => Ok(()),
-            [first, others @ ..] => {
-                BarText { bar: first }.put_on(sink)?;
-                put_other_bars(sink, others)
-            }
-        }
-    }
-}
-
-/// The bars of a histogram, whose text is theirs, and `none` where there is no bar.
-#[derive(Clone, Copy)]
-pub struct BarsText<'a> {
-    pub bars: &'a Bars,
-}
-
-impl Text for BarsText<'_> {
-    ghost use Rattle.av_session.specs.Answers.{bars_text};
-
-    ghost text = { λ shown. bars_text shown.bars.now };
-
-    #[tactic(auto, unfolding(crate::specs::Answers::bars_text))]
-    fn put_on<K: Sink>(&self, sink: &mut K) -> Result<(), SinkFault> {
-        match self.bars.as_slice() {
-            [] => put(sink, b"none"),
-            bars => JoinedBars { bars }.put_on(sink),
-        }
-    }
+    let table = DistTable::new(alloc, class.system(), kind, n)?;
+    distribution(alloc, &table, n)
 }
 
 /// Writes the lines of the members that a sieve gives, each with its rank.

@@ -15,7 +15,7 @@ pub const CATALAN_ANSWER: &[u8] = b"permspec 1
 basis 132
 simples 4:0 5:0
 gap 4
-system 1 equations 5 terms 10
+system 2 equations 5 terms 10
 E0 C avoid 132 require none = 1 | 12[E1,E2] | 21[E3,E0]
 E1 P avoid 132 require none = 1 | 21[E3,E0]
 E2 C avoid 21 require none = 1 | 12[E4,E2]
@@ -51,17 +51,17 @@ pub fn run_script(alloc: Global, options: &[&str], script: &[u8]) -> Result<Ende
     Ok(Ended { status, held })
 }
 
-static ANSWERED: [(&str, Status, &str); 11] = [
+static ANSWERED: [(&str, Status, &str); 19] = [
     (
         "basis 132\nlist 3\nlist 3 from 3 for 9\nlist 3 from 5\nrank 231\nrank 132\nunrank 3 4\nunrank 3 5\ndraw 3 0 2\n\
          drawstat inv 3 0 2\ndrawstat des 3 0 2\ndrawstat lrm 3 0 2\nstat inv 3\nstat des 3\nstat lrm 3\npick inv 2 3\n\
-         pick inv 4 3\n",
+         pick inv 4 3\ndist inv 3\ndist des 4\n",
         Status::Done,
         "permspec 1
 basis 132
 simples 4:0 5:0
 gap 4
-system 1 equations 5 terms 10
+system 2 equations 5 terms 10
 E0 C avoid 132 require none = 1 | 12[E1,E2] | 21[E3,E0]
 E1 P avoid 132 require none = 1 | 21[E3,E0]
 E2 C avoid 21 require none = 1 | 12[E4,E2]
@@ -101,6 +101,8 @@ pick inv 2 3 =
 end
 pick inv 4 3 =
 end
+dist inv 3 = 0:1 1:1 2:2 3:1
+dist des 4 = 0:1 1:6 2:6 3:1
 ",
     ),
     (
@@ -110,7 +112,7 @@ end
 basis 123 132
 simples 4:0 5:0
 gap 4
-system 1 equations 6 terms 11
+system 2 equations 6 terms 11
 E0 C avoid 123 132 require none = 1 | 12[E1,E2] | 21[E3,E0]
 E1 P avoid 12 require none = 1 | 21[E4,E5]
 E2 C avoid 12 21 require none = 1
@@ -132,7 +134,7 @@ drawstat inv 129 0 1 = over
 basis 132
 simples 4:0 5:0
 gap 4
-system 1 equations 5 terms 10
+system 2 equations 5 terms 10
 E0 C avoid 132 require none = 1 | 12[E1,E2] | 21[E3,E0]
 E1 P avoid 132 require none = 1 | 21[E3,E0]
 E2 C avoid 21 require none = 1 | 12[E4,E2]
@@ -149,7 +151,7 @@ count 3 = 5
 basis 2143 2413 3142
 simples 4:0 5:0
 gap 4
-system 1 equations 5 terms 11
+system 2 equations 5 terms 11
 E0 C avoid 2143 2413 3142 require none = 1 | 12[E1,E0] | 12[E2,E3] | 21[E4,E0]
 E1 P avoid 21 require none = 1
 E2 P avoid 2143 2413 3142 require 21 = 21[E4,E0]
@@ -166,7 +168,7 @@ count 1 = 1
 basis 123 132
 simples 4:0 5:0
 gap 4
-system 1 equations 6 terms 11
+system 2 equations 6 terms 11
 E0 C avoid 123 132 require none = 1 | 12[E1,E2] | 21[E3,E0]
 E1 P avoid 12 require none = 1 | 21[E4,E5]
 E2 C avoid 12 21 require none = 1
@@ -178,13 +180,13 @@ count 1 = 1
 ",
     ),
     (
-        "basis 1\ncount 1\ndraw 1 0 1\ndrawstat inv 1 0 1\nstat inv 1\npick inv 0 1\n",
+        "basis 1\ncount 1\ndraw 1 0 1\ndrawstat inv 1 0 1\nstat inv 1\npick inv 0 1\ndist inv 24\n",
         Status::Done,
         "permspec 1
 basis 1
 simples 4:0 5:0
 gap 4
-system 1 equations 1 terms 0
+system 2 equations 1 terms 0
 E0 C avoid 1 require none = none
 end
 count 1 = 0
@@ -193,6 +195,7 @@ drawstat inv 1 0 1 = none of 0
 stat inv 1 = none
 pick inv 0 1 =
 end
+dist inv 24 = none
 ",
     ),
     (
@@ -202,11 +205,107 @@ end
 basis 12
 simples 4:0 5:0
 gap 4
-system 1 equations 2 terms 3
+system 2 equations 2 terms 3
 E0 C avoid 12 require none = 1 | 21[E1,E0]
 E1 M avoid 12 require none = 1
 end
 count 1 = 1
+",
+    ),
+    (
+        "basis 132\nrequire 21\ncounts 5\nlist 3\nrank 123\nrank 132\n",
+        Status::Done,
+        "permspec 1
+basis 132
+require 21
+simples 4:0 5:0
+gap 4
+system 2 equations 7 terms 13
+E0 C avoid 132 require 21 = 12[E1,E2] | 21[E3,E4]
+E1 P avoid 132 require 21 = 21[E3,E4]
+E2 C avoid 21 require none = 1 | 12[E5,E2]
+E3 M avoid 132 require none = 1 | 12[E6,E2]
+E4 C avoid 132 require none = 1 | 12[E6,E2] | 21[E3,E4]
+E5 P avoid 21 require none = 1
+E6 P avoid 132 require none = 1 | 21[E3,E4]
+end
+counts 5 = 0 1 4 13 41
+list 3 from 0 for 1000 =
+0 213
+1 312
+2 321
+3 231
+end
+rank 123 = lacks 21
+rank 132 = no 132 at 1 2 3
+",
+    ),
+    (
+        "basis 21\nrequire 321\ncounts 3\n",
+        Status::Done,
+        "permspec 1
+basis 21
+require 321
+simples 4:0 5:0
+gap 4
+system 2 equations 1 terms 0
+E0 C avoid 21 require 321 = none
+end
+counts 3 = 0 0 0
+",
+    ),
+    (
+        "basis 21\nrequire 1\ncounts 3\ndist des 24\n",
+        Status::Done,
+        "permspec 1
+basis 21
+require none
+simples 4:0 5:0
+gap 4
+system 2 equations 2 terms 3
+E0 C avoid 21 require none = 1 | 12[E1,E0]
+E1 P avoid 21 require none = 1
+end
+counts 3 = 1 1 1
+dist des 24 = 0:1
+",
+    ),
+    (
+        "basis 21\nrequire 123\ncounts 4\n",
+        Status::Done,
+        "permspec 1
+basis 21
+require 123
+simples 4:0 5:0
+gap 4
+system 2 equations 5 terms 6
+E0 C avoid 21 require 123 = 12[E1,E2]
+E1 P avoid 12 21 require none = 1
+E2 C avoid 21 require 12 = 12[E3,E4]
+E3 P avoid 21 require none = 1
+E4 C avoid 21 require none = 1 | 12[E3,E4]
+end
+counts 4 = 0 0 1 1
+",
+    ),
+    (
+        "basis 21\nrequire 123\ncounts 4\nformat 1\n",
+        Status::Done,
+        "permspec 1
+basis 21
+require 123
+simples 4:0 5:0
+gap 4
+system 1 equations 7 terms 8
+E0 C avoid 21 require 123 = 12[E1,E2] | 12[E3,E4] | 12[E5,E4]
+E1 P avoid 12 21 require none = 1
+E2 C avoid 21 require 12 = 12[E6,E4]
+E3 P avoid 21 123 require 12 = none
+E4 C avoid 21 require none = 1 | 12[E6,E4]
+E5 P avoid 21 require 123 = none
+E6 P avoid 21 require none = 1
+end
+counts 4 = 0 0 1 1
 ",
     ),
     (
@@ -221,13 +320,54 @@ count 1 = 1
 basis 12
 simples 4:0 5:0
 gap 4
-system 1 equations 2 terms 3
+system 2 equations 2 terms 3
 E0 C avoid 12 require none = 1 | 21[E1,E0]
 E1 M avoid 12 require none = 1
 end
 tree 213 = 12[21[1,1],1]
 tree 261453 = 2413[1,1,1,21[12[1,1],1]]
 ",
+    ),
+    (
+        "basis 12\nunion 21\ncounts 5\n",
+        Status::Done,
+        "permspec 1
+union 12 with 21
+basis 132 213 231 312
+simples 4:0 5:0
+gap 4
+system 2 equations 5 terms 9
+E0 C avoid 132 213 231 312 require none = 1 | 12[E1,E2] | 21[E3,E4]
+E1 P avoid 21 require none = 1
+E2 C avoid 21 require none = 1 | 12[E1,E2]
+E3 M avoid 12 require none = 1
+E4 C avoid 12 require none = 1 | 21[E3,E4]
+end
+counts 5 = 1 2 2 2 2
+",
+    ),
+    (
+        "basis 1\nunion 132\ncount 7\n",
+        Status::Done,
+        "permspec 1
+union 1 with 132
+basis 132
+simples 4:0 5:0
+gap 4
+system 2 equations 5 terms 10
+E0 C avoid 132 require none = 1 | 12[E1,E2] | 21[E3,E0]
+E1 P avoid 132 require none = 1 | 21[E3,E0]
+E2 C avoid 21 require none = 1 | 12[E4,E2]
+E3 M avoid 132 require none = 1 | 12[E1,E2]
+E4 P avoid 21 require none = 1
+end
+count 7 = 429
+",
+    ),
+    (
+        "basis 132\nunion\n",
+        Status::Unsettled,
+        "permspec 1\nunion 132 with none\nbasis none\nsimples 4:2 5:6 6:46 7:338 8:2926\nunsettled 8\n",
     ),
     ("basis 132\ncount 161\n", Status::Refused, "fault 2 7\n"),
     ("", Status::Refused, "fault 0 1\n"),
@@ -255,7 +395,7 @@ const TEN_ANSWER: &[u8] = b"permspec 1
 basis 24153 25314 31524 35142 41352 42513 246135 362514 415263 531642
 simples 4:2 5:0 6:0
 gap 5
-system 1 equations 3 terms 13
+system 2 equations 3 terms 13
 E0 C avoid 24153 25314 31524 35142 41352 42513 246135 362514 415263 531642 require none = 1 | 12[E1,E0] | 21[E2,E0] | 2413[E0,E0,E0,E0] | 3142[E0,E0,E0,E0]
 E1 P avoid 24153 25314 31524 35142 41352 42513 246135 362514 415263 531642 require none = 1 | 21[E2,E0] | 2413[E0,E0,E0,E0] | 3142[E0,E0,E0,E0]
 E2 M avoid 24153 25314 31524 35142 41352 42513 246135 362514 415263 531642 require none = 1 | 12[E1,E0] | 2413[E0,E0,E0,E0] | 3142[E0,E0,E0,E0]
@@ -300,6 +440,21 @@ fn the_limit_of_sizes_decides(rt: HostRuntime) -> Result<(), Fail> {
     Ok(())
 }
 
+// The size is that of the canonical system in both formats: 15, though the pruned system has 11.
+#[test]
+fn the_size_is_counted_before_pruning(rt: HostRuntime) -> Result<(), Fail> {
+    for script in [
+        "basis 21\nrequire 123\n",
+        "basis 21\nrequire 123\nformat 1\n",
+    ] {
+        let within = run_script(rt.alloc(), &["--max-size=15"], script.as_bytes())?;
+        assert!(rt; within.status == Status::Done, "{script}");
+        let beyond = run_script(rt.alloc(), &["--max-size=14"], script.as_bytes())?;
+        assert!(rt; beyond.status == Status::TooLarge, "{script}");
+    }
+    Ok(())
+}
+
 // A script of 65,536 bytes is read whole, and one byte more is too much.
 #[test]
 fn the_longest_script(rt: HostRuntime) -> Result<(), Fail> {
@@ -326,6 +481,48 @@ fn counts_of_the_separable_permutations(rt: HostRuntime) -> Result<(), Fail> {
             .held
             .ends_with(b"count 1 = 1\ncount 4 = 22\ncount 7 = 1806\n")
     );
+    Ok(())
+}
+
+// The sum of the counts of bars: of the numbers after a colon.
+fn sum_of_counts(bars: &[u8]) -> u128 {
+    let mut sum: u128 = 0;
+    let mut count: u128 = 0;
+    let mut is_count = false;
+    for byte in bars {
+        match byte {
+            b':' => is_count = true,
+            b'0'..=b'9' => {
+                if is_count {
+                    count = count
+                        .saturating_mul(10)
+                        .saturating_add(u128::from(*byte - b'0'));
+                }
+            }
+            _ => {
+                sum = sum.saturating_add(count);
+                count = 0;
+                is_count = false;
+            }
+        }
+    }
+    sum
+}
+
+// The class has 1289904147324 permutations of length 24. Those with fewest inversions are counted by partitions: one for each
+// partition of the number.
+#[test]
+fn a_distribution_at_the_greatest_length(rt: HostRuntime) -> Result<(), Fail> {
+    let ended = run_script(rt.alloc(), &[], b"basis 132\ndist inv 24\n")?;
+    assert!(rt; ended.status == Status::Done);
+    // The system is that of the first script, whose last line has 14 bytes.
+    let Some(line) = ended.held.as_slice().get(CATALAN_ANSWER.len() - 14..) else {
+        assert!(rt; false, "the text is too short");
+        return Ok(());
+    };
+    assert!(rt; line.starts_with(b"dist inv 24 = 0:1 1:1 2:2 3:3 4:5 "));
+    assert!(rt; line.ends_with(b" 276:1\n"));
+    assert_eq!(rt; sum_of_counts(line), 1_289_904_147_324);
     Ok(())
 }
 

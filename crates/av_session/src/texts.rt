@@ -13,9 +13,9 @@ use crate::header::Header;
 use crate::options::Options;
 use crate::solving::{SettledClass, Solved};
 use crate::stop::Stop;
+use crate::subject::Subject;
 use av_io::{Sink, SinkFault, SureSink};
 use av_print::{Bytes, Number, put_gathered, put_system};
-use av_simple::Found;
 use av_sys::System;
 use av_text::{Kind, Queries};
 use std::alloc::Global;
@@ -42,18 +42,18 @@ pub fn put_fault<K: Sink>(
     put_gathered(alloc, sink, &text)
 }
 
-/// Writes the text of a class that has no gap within the limit.
+/// Writes the text of a class whose basis has no gap within the limit.
 #[tactic(auto, unfolding(crate::specs::Due::unsettled_text))]
-fn put_unsettled<K: Sink>(alloc: Global, sink: &mut K, found: &Found) -> Result<(), Stop>
-    ensures whole { OnOk result (Appends (K.held sink.old) (K.held sink.new) (unsettled_text found.now)) }
-    ensures part { AppendsPart (K.held sink.old) (K.held sink.new) (unsettled_text found.now) }
+fn put_unsettled<K: Sink>(alloc: Global, sink: &mut K, subject: &Subject) -> Result<(), Stop>
+    ensures whole { OnOk result (Appends (K.held sink.old) (K.held sink.new) (unsettled_text subject.now)) }
+    ensures part { AppendsPart (K.held sink.old) (K.held sink.new) (unsettled_text subject.now) }
     ensures later { K.faults sink.old ≤ K.faults sink.new }
     ensures failed { IsErrOf result Stop.WriteFault → Rose (K.faults sink.old) (K.faults sink.new) }
 {
     let text = (
-        Header { found },
+        Header { subject },
         Bytes(b"unsettled "),
-        Number(found.limit() as u128),
+        Number(subject.found.limit() as u128),
         Bytes(b"\n"),
     );
     put_gathered(alloc, sink, &text)?;
@@ -65,16 +65,16 @@ fn put_unsettled<K: Sink>(alloc: Global, sink: &mut K, found: &Found) -> Result<
 fn put_settled_header<K: Sink>(
     alloc: Global,
     sink: &mut K,
-    found: &Found,
+    subject: &Subject,
     gap: usize,
 ) -> Result<(), SinkFault>
-    ensures whole { OnOk result (Appends (K.held sink.old) (K.held sink.new) (settled_header found.now gap)) }
-    ensures part { AppendsPart (K.held sink.old) (K.held sink.new) (settled_header found.now gap) }
+    ensures whole { OnOk result (Appends (K.held sink.old) (K.held sink.new) (settled_header subject.now gap)) }
+    ensures part { AppendsPart (K.held sink.old) (K.held sink.new) (settled_header subject.now gap) }
     ensures later { K.faults sink.old ≤ K.faults sink.new }
     ensures failed { IsErrOf result SinkFault.Failed → Rose (K.faults sink.old) (K.faults sink.new) }
 {
     let text = (
-        Header { found },
+        Header { subject },
         Bytes(b"gap "),
         Number(gap as u128),
         Bytes(b"\n"),
@@ -87,16 +87,16 @@ fn put_settled_header<K: Sink>(
 fn put_too_large<K: Sink>(
     alloc: Global,
     sink: &mut K,
-    found: &Found,
+    subject: &Subject,
     gap: usize,
     limit: usize,
 ) -> Result<(), Stop>
-    ensures whole { OnOk result (Appends (K.held sink.old) (K.held sink.new) (too_large_text found.now gap limit)) }
-    ensures part { AppendsPart (K.held sink.old) (K.held sink.new) (too_large_text found.now gap limit) }
+    ensures whole { OnOk result (Appends (K.held sink.old) (K.held sink.new) (too_large_text subject.now gap limit)) }
+    ensures part { AppendsPart (K.held sink.old) (K.held sink.new) (too_large_text subject.now gap limit) }
     ensures later { K.faults sink.old ≤ K.faults sink.new }
     ensures failed { IsErrOf result Stop.WriteFault → Rose (K.faults sink.old) (K.faults sink.new) }
 {
-    put_settled_header(alloc, sink, found, gap)?;
+    put_settled_header(alloc, sink, subject, gap)?;
     let text = (Bytes(b"too large "), Number(limit as u128), Bytes(b"\n"));
     put_gathered(alloc, sink, &text)?;
     Ok(())
@@ -104,14 +104,19 @@ fn put_too_large<K: Sink>(
 
 /// Writes the text of a system in one piece, which it gathers in memory first.
 #[tactic(auto, using(av_print::proofs::Written::written, av_print::proofs::WaitingTexts::waiting))]
-fn put_whole_system<K: Sink>(alloc: Global, sink: &mut K, system: &System) -> Result<(), SinkFault>
-    ensures whole { OnOk result (Appends (K.held sink.old) (K.held sink.new) (system_text system.now)) }
-    ensures part { AppendsPart (K.held sink.old) (K.held sink.new) (system_text system.now) }
+fn put_whole_system<K: Sink>(
+    alloc: Global,
+    sink: &mut K,
+    system: &System,
+    version: u8,
+) -> Result<(), SinkFault>
+    ensures whole { OnOk result (Appends (K.held sink.old) (K.held sink.new) (system_text version system.now)) }
+    ensures part { AppendsPart (K.held sink.old) (K.held sink.new) (system_text version system.now) }
     ensures later { K.faults sink.old ≤ K.faults sink.new }
     ensures failed { IsErrOf result SinkFault.Failed → Rose (K.faults sink.old) (K.faults sink.new) }
 {
     let mut waiting = SureSink::new(alloc);
-    put_system(&mut waiting, system)?;
+    put_system(&mut waiting, system, version)?;
     waiting.pass_on(sink)
 }
 
@@ -123,12 +128,12 @@ fn put_system_and_answers<K: Sink>(
     class: &SettledClass,
     queries: &Queries,
 ) -> Result<(), Stop>
-    ensures whole { OnOk result (Appends (K.held sink.old) (K.held sink.new) (system_text class.now.system ⊹ flat_map (answer_text class.now) queries.now)) }
-    ensures part { AppendsPart (K.held sink.old) (K.held sink.new) (system_text class.now.system ⊹ flat_map (answer_text class.now) queries.now) }
+    ensures whole { OnOk result (Appends (K.held sink.old) (K.held sink.new) (system_text class.now.format class.now.system ⊹ flat_map (answer_text class.now) queries.now)) }
+    ensures part { AppendsPart (K.held sink.old) (K.held sink.new) (system_text class.now.format class.now.system ⊹ flat_map (answer_text class.now) queries.now) }
     ensures later { K.faults sink.old ≤ K.faults sink.new }
     ensures failed { IsErrOf result Stop.WriteFault → Rose (K.faults sink.old) (K.faults sink.new) }
 {
-    put_whole_system(alloc, sink, class.system())?;
+    put_whole_system(alloc, sink, class.system(), class.format())?;
     put_answers(alloc, sink, class, queries)
 }
 
@@ -145,7 +150,7 @@ fn put_settled<K: Sink>(
     ensures later { K.faults sink.old ≤ K.faults sink.new }
     ensures failed { IsErrOf result Stop.WriteFault → Rose (K.faults sink.old) (K.faults sink.new) }
 {
-    put_settled_header(alloc, sink, class.found(), class.gap())?;
+    put_settled_header(alloc, sink, class.subject(), class.gap())?;
     put_system_and_answers(alloc, sink, class, queries)
 }
 
@@ -163,9 +168,9 @@ pub fn put_class<K: Sink>(
     ensures failed { IsErrOf result Stop.WriteFault → Rose (K.faults sink.old) (K.faults sink.new) }
 {
     match solved {
-        Solved::Unsettled { found } => put_unsettled(alloc, sink, found),
-        Solved::TooLarge { found, gap } => {
-            put_too_large(alloc, sink, found, *gap, options.max_size)
+        Solved::Unsettled { subject } => put_unsettled(alloc, sink, subject),
+        Solved::TooLarge { subject, gap } => {
+            put_too_large(alloc, sink, subject, *gap, options.max_size)
         }
         Solved::Settled { class } => put_settled(alloc, sink, class, queries),
     }

@@ -99,7 +99,8 @@ fn run_with<S: Source, K: Sink>(
 /// last value (`ReadFault`, `WriteFault`), the bytes (`Refused`, `Unsettled`, `TooLarge`). `Memory` is free.
 ///
 /// Where the text due has a system, the values of its derivation trees of each size are exactly the permutations of that
-/// length that avoid the basis, each once (`exact`), and the answers are those of the class.
+/// length that avoid the basis and contain the required words, each once (`exact`), and the answers are those of the class. With a
+/// union line a permutation avoids the basis exactly where it avoids each word of the basis line or each word of that one (`about`).
 pub fn run<S: Source, K: Sink>(
     alloc: Global,
     words: &[String],
@@ -129,7 +130,7 @@ pub fn run<S: Source, K: Sink>(
 
     // What the text says, in the words of the textbook.
     ensures about { (bytes : List ℕ) (script : Script) → read bytes ≡ Ok script → IsAbout script }
-    ensures cases { (bytes : List ℕ) (o : Options) (script : Script) → read bytes ≡ Ok script → HasCases o script.basis }
+    ensures cases { (bytes : List ℕ) (o : Options) (script : Script) → read bytes ≡ Ok script → HasCases o script }
     ensures exact { WritesSystem (map string_bytes words.now) }
 {
     match read_words(alloc, words) {

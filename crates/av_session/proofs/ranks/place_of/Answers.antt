@@ -24,5 +24,5 @@ returns-in-Big c =
 pub returns-in-Stranger : goal.returns-in-Stranger
 returns-in-Stranger c =
     let w = c.args.word.now in
-    c.bad.ensures ∙ ranked_place c.args.class.now w Stranger c.system.ensures.class (word_from w (and_parts (is_word w) (nat_le (length w) MAX_LENGTH) c.len-len.ensures.word).0).filled
+    c.strange.ensures ∙ ranked_place c.args.class.now w Stranger c.system.ensures.class (word_from w (and_parts (is_word w) (nat_le (length w) MAX_LENGTH) c.len-len.ensures.word).0).filled
     (subst (λ S. IsRanked S w Stranger) c.system.ensures.value c.in-Stranger.ensures)
