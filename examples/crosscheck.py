@@ -3,10 +3,12 @@
 alone. For each class: the list of each length holds exactly the permutations that avoid the basis, each once; the counts are
 how many they are; `rank` and `unrank` lead from each member to its line and back; `rank` of any other permutation names the
 first word of the basis that it contains, at its first occurrence; `draw` gives the members at the ranks that ChaCha20's block
-function leads to, and `drawstat` what their statistics are; `stat` says how many members have each value, and `pick` gives
-those that have one. From every tenth rank on, and at and past the last rank, a list of a length to 8 holds what unranking each
+function leads to, and `drawstat` what their statistics are; `stat` says how many members have each value, `dist` says the
+same, and `pick` gives those that have one. For ten classes with required words the members are those that contain these too, `rank` names the first
+required word that another one lacks, and the answers are the same in both formats. For fourteen unions of two classes the list of
+each length holds exactly the permutations that are in the one or in the other, the counts say how many, and `rank` leads back. From every tenth rank on, and at and past the last rank, a list of a length to 8 holds what unranking each
 rank gives; so do a few lines of a long length from ranks all over the list. For three classes that the literature knows, the
-counts to length 40 are those of a recurrence, and the descents of one have known numbers. Prints a line for each, and ends
+counts to length 40 are those of a recurrence, and the descents and inversions of one have known numbers to length 24. Prints a line for each, and ends
 with 1 on a difference."""
 import subprocess
 import sys
@@ -15,7 +17,13 @@ from math import comb
 
 LONGEST = 7
 LONGEST_LIST = 8
+LONGEST_DISTRIBUTION = 24
 GREATEST_RANK = 2**128 - 1
+REQUIRED = [("132", "21"), ("132", "21 123"), ("231", "312"), ("2413 3142", "2143"), ("123 132", "21 213"), ("321 2413 3142", "2143"),
+            ("12", "321"), ("21", "123"), ("2143 2413 3142 3412", "132 213"), ("1243 2413 41352 531642", "3142")]
+UNIONS = [("12", "21"), ("1", "132"), ("132", "213"), ("231", "312"), ("132", "132"), ("123 2413 3142", "21"), ("132 321", "213"), ("123 132", "213 231"),
+          ("2413 3142 132", "2413 3142 213"), ("231 312", "132 213"), ("2413 3142", "21"), ("123 3142 2413", "321 3142 2413"),
+          ("321 2143 3142 2413", "12"), ("2143 2413 3142", "132 231")]
 CLASSES = ["132", "231", "2413 3142", "123 132", "2143 2413 3142", "1324 2413 3142", "2143 2413 3142 3412",
            "321 2413 3142", "1243 2413 41352 531642", "12",
            "24153 25314 31524 35142 41352 42513 246135 362514 415263 531642"]
@@ -65,6 +73,8 @@ STATISTICS = {
     "lrm": lambda w: sum(all(a < w[i] for a in w[:i]) for i in range(len(w))),
 }
 
+DISTRIBUTED = ("inv", "des")
+
 
 def check_draws(program, basis, length, listed):
     """Draws from the members of a length, given as their lines."""
@@ -88,10 +98,54 @@ def check_statistics(program, basis, length, listed):
         bars = [f"{value}:{values.count(value)}" for value in sorted(set(values))]
         queries.append(f"stat {name} {length}")
         due.append(f"{queries[-1]} = {' '.join(bars) or 'none'}")
+        if name in DISTRIBUTED:
+            queries.append(f"dist {name} {length}")
+            due.append(f"{queries[-1]} = {' '.join(bars) or 'none'}")
         for value in range(max(values, default=0) + 2):
             queries.append(f"pick {name} {value} {length}")
             due += [f"{queries[-1]} ="] + [" ".join(row) for row, own in zip(listed, values) if own == value] + ["end"]
     assert answers(program, basis, queries) == due, (basis, length)
+
+
+def check_required(program, basis, required):
+    """The members of a class with required words, and why other permutations are none; in both formats the answers are the same."""
+    avoid, require = ([tuple(map(int, word)) for word in words.split()] for words in (basis, required))
+    own = f"{basis}\nrequire {required}"
+    most = [q for q in sorted(require, key=lambda q: (len(q), q)) if not any(q != r and occurrence(r, q) for r in require)]
+    for length in range(1, LONGEST + 1):
+        everyone = list(permutations(range(1, length + 1)))
+        inside = [word for word in everyone if not any(occurrence(word, b) for b in avoid)]
+        lacking = {word: next((q for q in most if not occurrence(word, q)), None) for word in inside}
+        members = {text(word) for word in inside if lacking[word] is None}
+        lines = answers(program, own, [f"list {length} for 1000000", f"count {length}"])
+        assert lines[-1] == f"count {length} = {len(members)}", (own, length)
+        listed = [line.split() for line in lines[1:-2]]
+        assert len(listed) == len(members) and {word for _, word in listed} == members, (own, length)
+        queries = [f"rank {word}" for _, word in listed] + [f"rank {text(word)}" for word in inside if lacking[word]]
+        due = [f"rank {word} = {rank}" for rank, word in listed]
+        due += [f"rank {text(word)} = lacks {text(lacking[word])}" for word in inside if lacking[word]]
+        for first in range(0, len(queries), 1000):
+            batch = queries[first:first + 1000]
+            assert answers(program, own, batch) == answers(program, own + "\nformat 1", batch) == due[first:first + 1000], (own, length)
+    print(f"{basis} with {required}: lists, counts and ranks to length {LONGEST} agree, in both formats")
+
+
+def check_union(program, first, second):
+    """The members of the union of two classes, with a required word and without."""
+    lists = [[tuple(map(int, word)) for word in words.split()] for words in (first, second)]
+    for wanted in ("", "12"):
+        own = f"{first}\nunion {second}" + (f"\nrequire {wanted}" if wanted else "")
+        for length in range(1, LONGEST + 1):
+            inside = [word for word in permutations(range(1, length + 1)) if any(not any(occurrence(word, b) for b in avoid) for avoid in lists)]
+            members = {text(word) for word in inside if not wanted or occurrence(word, (1, 2))}
+            lines = answers(program, own, [f"list {length} for 1000000", f"count {length}"])
+            assert lines[-1] == f"count {length} = {len(members)}", (own, length)
+            listed = [line.split() for line in lines[1:-2]]
+            assert len(listed) == len(members) and {word for _, word in listed} == members, (own, length)
+            for first_row in range(0, len(listed), 1000):
+                batch = listed[first_row:first_row + 1000]
+                assert answers(program, own, [f"rank {word}" for _, word in batch]) == [f"rank {word} = {rank}" for rank, word in batch], (own, length)
+    print(f"{first} or {second}: lists, counts and ranks to length {LONGEST} agree, with 12 required too")
 
 
 def text(word):
@@ -191,15 +245,46 @@ def check_counts(program):
 
 def check_narayana(program):
     """Of the permutations of length n that avoid 132, those with k descents are counted by Narayana's numbers."""
-    for n in range(1, 10):
-        bars = [f"{k}:{comb(n, k) * comb(n, k + 1) // n}" for k in range(n)]
-        assert answers(program, "132", [f"stat des {n}"]) == [f"stat des {n} = {' '.join(bars)}"], n
-    print("132: descents to length 9 are counted by Narayana's numbers")
+    for n in range(1, LONGEST_DISTRIBUTION + 1):
+        bars = " ".join(f"{k}:{comb(n, k) * comb(n, k + 1) // n}" for k in range(n))
+        queries = [f"dist des {n}"] + ([f"stat des {n}"] if n < 10 else [])
+        assert answers(program, "132", queries) == [f"{query} = {bars}" for query in queries], n
+    print(f"132: descents to length {LONGEST_DISTRIBUTION} are counted by Narayana's numbers")
+
+
+def carlitz_riordan(n):
+    """The q-Catalan numbers of Carlitz and Riordan to index n, each as its coefficients: C(m + 1) is the sum over i of
+    q^((i + 1)(m - i)) C(i) C(m - i)."""
+    numbers = [[1]]
+    for m in range(n):
+        terms = [((i + 1) * (m - i), numbers[i], numbers[m - i]) for i in range(m + 1)]
+        sums = [0] * max(by + len(first) + len(second) - 1 for by, first, second in terms)
+        for by, first, second in terms:
+            for a, x in enumerate(first):
+                for b, y in enumerate(second):
+                    sums[by + a + b] += x * y
+        numbers.append(sums)
+    return numbers
+
+
+def check_carlitz_riordan(program):
+    """Of the permutations of length n that avoid 132, those with k inversions are counted by the coefficient of q^k: one with i
+    entries before its greatest has (i + 1)(n - 1 - i) inversions more than its two parts."""
+    numbers = carlitz_riordan(LONGEST_DISTRIBUTION)
+    for n in range(1, LONGEST_DISTRIBUTION + 1):
+        bars = " ".join(f"{k}:{count}" for k, count in enumerate(numbers[n]) if count)
+        assert answers(program, "132", [f"dist inv {n}"]) == [f"dist inv {n} = {bars}"], n
+    print(f"132: inversions to length {LONGEST_DISTRIBUTION} are counted by the q-Catalan numbers of Carlitz and Riordan")
 
 
 if __name__ == "__main__":
     for each in CLASSES:
         check_class(sys.argv[1], each)
         check_lists(sys.argv[1], each)
+    for avoided, wanted in REQUIRED:
+        check_required(sys.argv[1], avoided, wanted)
+    for one, other in UNIONS:
+        check_union(sys.argv[1], one, other)
     check_counts(sys.argv[1])
     check_narayana(sys.argv[1])
+    check_carlitz_riordan(sys.argv[1])
