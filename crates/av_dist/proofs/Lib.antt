@@ -18,4 +18,3 @@ pub mod NextChild
 pub mod TermRows
 pub mod HeldLevels
 pub mod DistributionBars
-pub mod DistributionLaws

@@ -19,7 +19,7 @@ use Rattle.av_count.specs.Choices.{choice_lists}
 use Rattle.av_count.proofs.Choices.{choices_grown, map_flat_map, flat_map_same}
 use Rattle.av_count.proofs.Members.{map_map, members_by_terms, count_members}
 use Rattle.av_count.proofs.NodeForms.{node_form}
-use Rattle.av_stat.specs.Histograms.{how_many}
+use Rattle.av_bars.specs.Histograms.{how_many}
 use Rattle.av_tree.proofs.TreeWords.{IsWordOfLength, member_word}
 use Rattle.av_dist.specs.Kinds.{statistic_by, statistics_at}
 use Rattle.av_dist.specs.Crossing.{added}

@@ -14,8 +14,6 @@ mod nodes;
 mod row;
 mod table;
 mod terms;
-#[cfg(test)]
-mod tests;
 
-pub use bars::{DistBar, DistBars};
+pub use av_bars::{DistBar, DistBars};
 pub use table::{DistTable, distribution};

@@ -4,9 +4,10 @@ ghost use Rattle.av_sys.specs.Terms.{IsWellFormed};
 ghost use Rattle.av_sys.specs.Exact.{NamedUpTo};
 ghost use Rattle.av_dist.specs.Distributions.{number_with, dist};
 
-use crate::bars::{DistBars, gather};
+use crate::bars::gather;
 use crate::levels::Levels;
 use crate::terms::level_of;
+use av_bars::DistBars;
 use av_perm::Memory;
 use av_sys::System;
 use av_text::{DistKind, MAX_DISTRIBUTION_LENGTH};

@@ -3,8 +3,8 @@ use Rattle.std.specs.Prelude.{ℕ, List, [], ◌∷◌, ◌++◌, length, nat_le
 use Rattle.std.specs.List.{join_by}
 use Rattle.av_count.specs.declared.count.Count.{Count}
 use Rattle.av_count.specs.declared.count.Count.TheVariants.{Known, Over}
-use Rattle.av_stat.specs.declared.bars.Bar.{Bar}
-use Rattle.av_dist.specs.declared.bars.DistBar.{DistBar}
+use Rattle.av_bars.specs.declared.bars.Bar.{Bar}
+use Rattle.av_bars.specs.declared.dist_bars.DistBar.{DistBar}
 use Rattle.av_decomp.specs.RootTrees.{RootTrees, none, more, RootTree}
 use Rattle.av_text.specs.declared.queries.Form.TheVariants as form
 use Rattle.av_text.specs.declared.queries.Query.{Query}

@@ -4,9 +4,8 @@ use crate::bytes::Bytes;
 use crate::joined::JoinedOrNone;
 use crate::numbers::Number;
 use crate::text::Text;
-use av_dist::{DistBar, DistBars};
+use av_bars::{Bar, Bars, DistBar, DistBars};
 use av_io::{Sink, SinkFault};
-use av_stat::{Bar, Bars};
 
 /// A value, and how many have it, with a colon between them.
 #[derive(Clone, Copy)]

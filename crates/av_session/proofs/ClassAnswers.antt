@@ -19,8 +19,8 @@ use Rattle.av_count.proofs.NodeForms.{got_In}
 use Rattle.av_count.proofs.ClassMembers.{members_law, once_place}
 use Rattle.av_text.specs.declared.queries.DistKind.{DistKind}
 use Rattle.av_text.specs.Queries.{stat_kind}
+use Rattle.av_bars.specs.Laws.{pair_of}
 use Rattle.av_dist.specs.Distributions.{dist}
-use Rattle.av_dist.specs.Laws.{pair_of}
 use Rattle.av_draw.specs.Drawn.{drawn, drawn_number}
 use Rattle.av_session.specs.Classes.{Class, required_of}
 use Rattle.av_session.specs.Answers.{place_among, first_lacking}

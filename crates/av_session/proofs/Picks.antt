@@ -10,14 +10,15 @@ use Rattle.av_perm.proofs.Ascending.{ascending_filter, nat_cmp_less}
 use Rattle.av_perm.proofs.Membership.{In_filter, filter_In, In_map}
 use Rattle.av_list.specs.Items.{ranked, items_from}
 use Rattle.av_count.proofs.Members.{map_map}
-use Rattle.av_stat.specs.declared.bars.Bar.{Bar}
-use Rattle.av_stat.specs.Histograms.{bars, how_many, words_of}
-use Rattle.av_stat.proofs.Histograms.{histogram_law}
+use Rattle.av_bars.specs.declared.bars.Bar.{Bar}
+use Rattle.av_bars.specs.Histograms.{bars, how_many}
+use Rattle.av_bars.specs.Distributions.{distribution_of}
+use Rattle.av_bars.specs.Laws.{pair_of, histogram_pair}
+use Rattle.av_bars.proofs.Histograms.{histogram_law}
+use Rattle.av_bars.proofs.DistributionLaws.{same_histogram_law}
+use Rattle.av_stat.specs.Listed.{words_of}
 use Rattle.av_text.specs.declared.queries.DistKind.{DistKind}
 use Rattle.av_text.specs.Queries.{stat_kind}
-use Rattle.av_dist.specs.Distributions.{distribution_of}
-use Rattle.av_dist.specs.Laws.{pair_of, histogram_pair}
-use Rattle.av_dist.proofs.DistributionLaws.{same_histogram_law}
 use Rattle.av_session.specs.Answers.{picked}
 use Rattle.av_session.specs.Runs.{by_rank, ArePicked, IsCountOf, HasBars}
 
@@ -111,9 +112,9 @@ has_bars basis required ws t n l =
 
 -- and so are those of a distribution, which has the values and the counts of the histogram
 pub has_distribution : (basis required ws : List (List ℕ)) (k : DistKind) (n : ℕ) → IsListOf (InClassWithAt basis required n) ws
-    → HasBars basis required (stat_kind k) n (map pair_of (distribution_of k ws))
+    → HasBars basis required (stat_kind k) n (map pair_of (distribution_of (stat_kind k) ws))
 has_distribution basis required ws k n l =
-    subst (HasBars basis required (stat_kind k) n) (sym (same_histogram_law k ws)) (has_bars basis required ws (stat_kind k) n l)
+    subst (HasBars basis required (stat_kind k) n) (sym (same_histogram_law (stat_kind k) ws)) (has_bars basis required ws (stat_kind k) n l)
 
 -- the words of the first k of some words with their ranks
 taken_words : (k : ℕ) (ws : List (List ℕ)) (r : ℕ) → words_of (take k (ranked r ws)) ≡ take k ws

@@ -12,7 +12,7 @@ use Rattle.av_count.specs.declared.count.Count.{Count}
 use Rattle.av_count.specs.declared.count.Count.TheVariants.{Known, Over}
 use Rattle.av_count.specs.Counts.{capped}
 use Rattle.av_list.specs.Items.{items_from}
-use Rattle.av_stat.specs.Histograms.{bars}
+use Rattle.av_bars.specs.Histograms.{bars}
 use Rattle.av_dist.specs.Distributions.{dist}
 use Rattle.av_text.specs.declared.queries.Query.{Query}
 use Rattle.av_text.specs.declared.queries.Query.TheVariants as query

@@ -21,9 +21,9 @@ use Rattle.av_sys.specs.TreeLists.{members, count_of}
 use Rattle.av_sys.specs.Exact.{Exact, Named}
 use Rattle.av_build.specs.Canonical.{grow, grown_size, IsTooLarge, IsCanonical}
 use Rattle.av_list.specs.Items.{items_from}
-use Rattle.av_stat.specs.Histograms.{bars}
+use Rattle.av_bars.specs.Histograms.{bars}
+use Rattle.av_bars.specs.Laws.{pair_of, histogram_pair}
 use Rattle.av_dist.specs.Distributions.{dist}
-use Rattle.av_dist.specs.Laws.{pair_of, histogram_pair}
 use Rattle.av_text.specs.declared.queries.DistKind.{DistKind}
 use Rattle.av_text.specs.Queries.{stat_kind}
 use Rattle.av_text.specs.declared.script.Script.{Script}

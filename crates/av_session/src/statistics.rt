@@ -8,7 +8,7 @@ ghost use Rattle.av_print.specs.Text.{◌⊹◌, query_text};
 ghost use Rattle.av_perm.specs.Word.{is_perm};
 ghost use Rattle.av_perm.specs.Stat.{statistic_of};
 ghost use Rattle.av_sys.specs.TreeLists.{members};
-ghost use Rattle.av_stat.specs.Histograms.{bars};
+ghost use Rattle.av_bars.specs.Histograms.{bars};
 ghost use Rattle.av_dist.specs.Distributions.{dist};
 ghost use Rattle.av_session.specs.Answers.{Tells, kept_text, picked_text};
 

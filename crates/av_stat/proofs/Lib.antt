@@ -1,3 +1,2 @@
-pub mod BarLists
-pub mod Counted
-pub mod Histograms
+-- Statistics are small, and items come one after another.
+pub mod Listed

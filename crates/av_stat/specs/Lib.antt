@@ -1,3 +1,2 @@
--- The definitions of histograms.
-pub mod Histograms
-pub mod Laws
+-- What the closures of statistics answer, and the words of a lister.
+pub mod Listed

@@ -2,11 +2,12 @@
 ghost use Rattle.std.specs.Prelude.{◌≡◌, ◌<◌, ◌+◌, ◌^◌, ℕ, [], IsTrue, IfOk, length};
 ghost use Rattle.std.specs.Fn.{FnReturnsAt};
 ghost use Rattle.av_perm.specs.Word.{is_perm};
-ghost use Rattle.av_stat.specs.Histograms.{Answers, Tallied, bars, words_of};
+ghost use Rattle.av_bars.specs.Histograms.{Tallied, bars};
+ghost use Rattle.av_stat.specs.Listed.{Answers, words_of};
 
-use crate::bars::Bars;
 use crate::counts::{gather, raise, zeros};
 use crate::stat::Stat;
+use av_bars::Bars;
 use av_list::Lister;
 use av_perm::{MAX_STATISTIC, Memory, Perm};
 use std::alloc::Global;

@@ -1,8 +1,8 @@
 // A count for each value.
 ghost use Rattle.std.specs.Prelude.{◌≡◌, ◌<◌, ◌≤◌, ◌+◌, ◌^◌, ℕ, [], ◌++◌, IfOk, OnOk, OnErr, length, replicate, slice_index, slice_set};
-ghost use Rattle.av_stat.specs.Histograms.{bar_at, bars_of};
+ghost use Rattle.av_bars.specs.Histograms.{bar_at, bars_of};
 
-use crate::bars::{Bar, Bars};
+use av_bars::{Bar, Bars};
 use av_perm::Memory;
 use std::alloc::Global;
 

@@ -4,14 +4,12 @@
 //! increasing order, and the number of the words that have it.
 #![tactic(auto)]
 
-mod bars;
 mod by_value;
 mod counts;
-pub mod laws;
 mod stat;
 #[cfg(test)]
 mod tests;
 
-pub use bars::{Bar, Bars};
+pub use av_bars::{Bar, Bars};
 pub use by_value::histogram;
 pub use stat::Stat;

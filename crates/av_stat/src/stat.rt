@@ -3,7 +3,7 @@ ghost use Rattle.std.specs.Prelude.{◌≡◌, ◌≤◌, ℕ, List, IsTrue};
 ghost use Rattle.std.specs.Fn.{FnReturnsAt};
 ghost use Rattle.av_perm.specs.Word.{is_perm};
 ghost use Rattle.av_perm.specs.Stat.{statistic_of};
-ghost use Rattle.av_stat.specs.Histograms.{Answers};
+ghost use Rattle.av_stat.specs.Listed.{Answers};
 
 use av_perm::{MAX_STATISTIC, Perm, StatKind};
 

@@ -1,9 +1,9 @@
 -- One bar more, where some have the value, and in the end those of all values.
 use Rattle.std.proofs.Common.{◌≡◌, ◌+◌, ◌++◌, List, length, ap, ap₂, ◌∙◌, sym, arith}
 use Rattle.av_perm.specs.Relations.{at}
-use Rattle.av_dist.specs.declared.bars.DistBar.{DistBar}
-use Rattle.av_dist.specs.Distributions.{dist_bar_at, dist_bars}
-use Rattle.av_dist.proofs.DistributionBars.{no_bars, bars_next}
+use Rattle.av_bars.specs.declared.dist_bars.DistBar.{DistBar}
+use Rattle.av_bars.specs.Distributions.{dist_bar_at, dist_bars}
+use Rattle.av_bars.proofs.Distributions.{no_bars, bars_next}
 use Rattle.av_dist.proofs.bars.gather.Goals as goal
 
 pub loop-value-init : goal.loop-value-init

@@ -1,7 +1,7 @@
 -- The bars of the row of equation 0 are the distribution.
 use Rattle.std.proofs.Common.{◌≡◌, List, subst}
 use Rattle.std.specs.Prelude.{IfOk}
-use Rattle.av_dist.specs.declared.bars.DistBar.{DistBar}
+use Rattle.av_bars.specs.declared.dist_bars.DistBar.{DistBar}
 use Rattle.av_dist.specs.Distributions.{dist}
 use Rattle.av_dist.specs.Tables.{Stands}
 use Rattle.av_dist.proofs.DistributionBars.{row_distribution}

@@ -6,8 +6,9 @@ use Rattle.av_sys.specs.declared.terms.System.{System}
 use Rattle.av_sys.specs.TreeLists.{members}
 use Rattle.av_count.proofs.ClassMembers.{members_law}
 use Rattle.av_list.specs.Items.{items_from}
-use Rattle.av_stat.specs.declared.bars.Bar.{Bar}
-use Rattle.av_stat.specs.Histograms.{bars, words_of}
+use Rattle.av_bars.specs.declared.bars.Bar.{Bar}
+use Rattle.av_bars.specs.Histograms.{bars}
+use Rattle.av_stat.specs.Listed.{words_of}
 use Rattle.av_session.specs.Classes.{required_of}
 use Rattle.av_session.proofs.FewMembers.{few_members}
 use Rattle.av_session.proofs.Picks.{words_of_items, few_items}

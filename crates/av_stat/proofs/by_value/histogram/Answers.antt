@@ -1,10 +1,11 @@
 -- Nothing is counted, and then each item.
-use Rattle.std.proofs.Common.{◌≡◌, ◌<◌, length, drop, List, ℕ, subst, sym, ap, ◌∙◌, arith}
+use Rattle.std.proofs.Common.{◌≡◌, length, drop, List, ℕ, subst, sym, ap, ◌∙◌, arith}
 use Rattle.std.specs.Prelude.{IfOk}
 use Rattle.std.proofs.lemmas.List.{length-replicate, take_all, take-append-le}
-use Rattle.av_stat.specs.declared.bars.Bar.{Bar}
-use Rattle.av_stat.specs.Histograms.{Tallied, words_of}
-use Rattle.av_stat.proofs.Counted.{none_tallied, tallied_bars}
+use Rattle.av_bars.specs.declared.bars.Bar.{Bar}
+use Rattle.av_bars.specs.Histograms.{Tallied}
+use Rattle.av_stat.specs.Listed.{words_of}
+use Rattle.av_bars.proofs.Counted.{none_tallied, tallied_bars}
 use Rattle.av_stat.proofs.by_value.histogram.Goals as goal
 
 pub tally-requires-clause-none : goal.tally-requires-clause-none

@@ -1,8 +1,10 @@
 -- One item more is counted at its value.
-use Rattle.std.proofs.Common.{◌≡◌, ℕ, List, ◌<◌, length, subst, sym, ap, ◌∙◌, arith}
+use Rattle.std.proofs.Common.{ℕ, List, ◌<◌, length, subst, sym, ap, ◌∙◌, arith}
 use Rattle.std.proofs.lemmas.List.{length-set}
-use Rattle.av_stat.specs.Histograms.{Tallied, words_of}
-use Rattle.av_stat.proofs.Counted.{word_tallied, words_more, turn, room, all_came}
+use Rattle.av_bars.specs.Histograms.{Tallied}
+use Rattle.av_stat.specs.Listed.{words_of}
+use Rattle.av_bars.proofs.Counted.{word_tallied}
+use Rattle.av_stat.proofs.Listed.{words_more, turn, room, all_came}
 use Rattle.av_stat.proofs.by_value.tally.Goals as goal
 
 pub raise-requires-clause-fits : goal.raise-requires-clause-fits

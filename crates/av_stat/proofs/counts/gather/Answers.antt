@@ -1,8 +1,8 @@
 -- A bar more where some have the value.
-use Rattle.std.proofs.Common.{ℕ, ◌+◌, List, ◌++◌, get_or, sym, ap, ◌∙◌, arith}
-use Rattle.av_stat.specs.declared.bars.Bar.{Bar}
-use Rattle.av_stat.specs.Histograms.{bar_at, bars_of}
-use Rattle.av_stat.proofs.BarLists.{bars_zero, bars_after}
+use Rattle.std.proofs.Common.{◌+◌, List, ◌++◌, get_or, sym, ap, ◌∙◌, arith}
+use Rattle.av_bars.specs.declared.bars.Bar.{Bar}
+use Rattle.av_bars.specs.Histograms.{bar_at}
+use Rattle.av_bars.proofs.BarLists.{bars_zero, bars_after}
 use Rattle.av_stat.proofs.counts.gather.Goals as goal
 
 pub loop-value-init : goal.loop-value-init

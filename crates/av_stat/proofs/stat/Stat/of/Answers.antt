@@ -1,7 +1,7 @@
 -- The closure answers the statistic, which is small.
 use Rattle.std.proofs.Common.{◌≡◌, arith}
 use Rattle.av_perm.specs.Stat.{statistic_of}
-use Rattle.av_stat.proofs.Counted.{statistic_few}
+use Rattle.av_stat.proofs.Listed.{statistic_few}
 use Rattle.av_stat.proofs.stat.Stat.of.Goals as goal
 
 pub returns-clause-value : goal.returns-clause-value

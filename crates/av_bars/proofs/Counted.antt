@@ -1,25 +1,15 @@
 -- How many words have a value, the greatest value, and counts of words that come one after another.
-use Rattle.std.proofs.Common.{◌≡◌, ℕ, zero, suc, ◌+◌, ◌-◌, ◌<◌, ◌≤◌, ◌^◌, max, inl, inr, Bool, true, false, cond, nat_eq, List, [], ◌∷◌, ◌++◌, map, filter, length, get_or, set, replicate, refl, sym, ap, ◌∙◌, subst, arith, eq-eqb, ne_eqb, append_assoc, append-nil}
+use Rattle.std.proofs.Common.{◌≡◌, ℕ, suc, ◌+◌, ◌-◌, ◌<◌, ◌≤◌, inl, inr, Bool, true, false, cond, nat_eq, List, [], ◌∷◌, ◌++◌, filter, length, get_or, set, replicate, refl, sym, ap, ◌∙◌, subst, arith, eq-eqb, ne_eqb}
 use Rattle.std.proofs.lemmas.Bool.{cases_eq}
-use Rattle.std.proofs.lemmas.List.{length-append, length-map, map-append, length-set, get_or-set_same, get_or-set_other, get_or-replicate}
+use Rattle.std.proofs.lemmas.List.{length-append, length-set, get_or-set_same, get_or-set_other, get_or-replicate}
 use Rattle.std.proofs.lemmas.List.Elements.{filter-append}
 use Rattle.std.proofs.lemmas.List.Sums.{length-filter, count_by-le-length}
 use Rattle.av_perm.specs.Members.{In}
-use Rattle.av_perm.specs.Stat.{statistic_of, left_to_right_maxima}
-use Rattle.av_perm.specs.Word.{is_perm}
+use Rattle.av_perm.specs.Stat.{statistic_of}
 use Rattle.av_perm.specs.declared.StatKind.{StatKind}
-use Rattle.av_perm.specs.declared.StatKind.TheVariants.{Inv, Des, Lrm}
 use Rattle.av_perm.proofs.Membership.{In_append_cases, filter_In}
-use Rattle.av_perm.proofs.PermWords.{perm_short}
-use Rattle.av_perm.proofs.StatCounts.{inversions_few, descents_few, maxima_few}
-use Rattle.av_stat.specs.Histograms.{how_many, greatest, bars, bars_of, words_of, Tallied}
-use Rattle.av_stat.proofs.BarLists.{bars_same, bars_end}
-
--- the statistic of a word of at most 160 entries
-pub statistic_few : (kind : StatKind) (w : List ℕ) → is_perm w ≡ true → statistic_of kind w ≤ 12720
-statistic_few Inv w h = inversions_few w (perm_short w h)
-statistic_few Des w h = omega (arith, descents_few w, perm_short w h)
-statistic_few Lrm w h = let m : left_to_right_maxima w ≤ length w = maxima_few w (length w) in omega (arith, m, perm_short w h)
+use Rattle.av_bars.specs.Histograms.{how_many, greatest, bars, bars_of, Tallied}
+use Rattle.av_bars.proofs.BarLists.{bars_same, bars_end}
 
 -- one word more
 pub how_many_more : (kind : StatKind) (ws : List (List ℕ)) (w : List ℕ) (v : ℕ)
@@ -122,21 +112,3 @@ tallied_bars kind counts ws some t =
     ∙ ap (bars_of (how_many kind ws)) e
     ∙ bars_end (how_many kind ws) (suc (greatest kind ws)) (length counts - suc (greatest kind ws))
     (λ v h. let n : how_many kind ws v ≡ 0 = absent kind ws v (λ w i q. let m = at_most_greatest kind ws w i in omega (arith, m, q, h)) in omega (arith, n))
-
--- the words of items, and of one more
-pub words_more : (items : List (ℕ × List ℕ)) (i : ℕ × List ℕ) → words_of (items ++ i ∷ []) ≡ words_of items ++ i.1 ∷ []
-words_more items i = map-append (λ (j : ℕ × List ℕ). j.1) items (i ∷ [])
-
--- the items that came, with the next one, and those that are left
-pub turn : (done left rest all : List (ℕ × List ℕ)) (i : ℕ × List ℕ) → done ++ left ≡ all → left ≡ i ∷ rest → (done ++ i ∷ []) ++ rest ≡ all
-turn done left rest all i e f = append_assoc done (i ∷ []) rest ∙ ap (λ (z : List (ℕ × List ℕ)). done ++ z) (sym f) ∙ e
-
--- one more than those among them that have a value fits
-pub room : (kind : StatKind) (done left rest all : List (ℕ × List ℕ)) (i : ℕ × List ℕ) (v : ℕ) → done ++ left ≡ all → left ≡ i ∷ rest → length all < 2 ^ 64
-    → how_many kind (words_of done) v + 1 < 2 ^ 64
-room kind done left rest all i v e f few =
-    omega (arith, how_many_few kind (words_of done) v, length-map done (λ (j : ℕ × List ℕ). j.1), length-append done left, ap length e, ap length f, few)
-
--- all came
-pub all_came : (done left all : List (ℕ × List ℕ)) → done ++ left ≡ all → left ≡ [] → done ≡ all
-all_came done left all e f = sym (append-nil done) ∙ ap (λ (z : List (ℕ × List ℕ)). done ++ z) (sym f) ∙ e

@@ -20,7 +20,7 @@ pub struct Bars {
 
 impl Model for Bars {
     ghost use Rattle.std.specs.Prelude.{List};
-    ghost use Rattle.av_stat.specs.declared.bars.Bar.{Bar};
+    ghost use Rattle.av_bars.specs.declared.bars.Bar.{Bar};
 
     ghost Value = { List Bar };
 
@@ -28,8 +28,8 @@ impl Model for Bars {
 }
 
 impl Bars {
-    // The empty list. It takes no memory.
-    pub(crate) fn empty(alloc: Global) -> Bars
+    /// The empty list. It takes no memory.
+    pub fn empty(alloc: Global) -> Bars
         ensures { result ≡ [] }
     {
         Bars {
@@ -59,8 +59,8 @@ impl Bars {
         self.items.as_slice()
     }
 
-    // Appends a bar. After `Memory` the list is as before.
-    pub(crate) fn push(&mut self, bar: Bar) -> Result<(), Memory>
+    /// Appends a bar. After `Memory` the list is as before.
+    pub fn push(&mut self, bar: Bar) -> Result<(), Memory>
         ensures ok { OnOk result (self.new ≡ self.old ++ bar ∷ []) }
         ensures err { OnErr result (self.new ≡ self.old) }
     {

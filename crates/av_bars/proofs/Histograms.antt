@@ -1,4 +1,4 @@
--- The law of histograms.
+-- The law of histograms: values, counts and what they reach.
 use Rattle.std.proofs.Common.{◌≡◌, ℕ, suc, ◌<◌, nat_lt, List, [], ◌∷◌, map, filter, refl, sym, ap, ◌∙◌, subst, arith, lt-ltb, ltb-true}
 use Rattle.std.specs.Ordering.{nat_cmp}
 use Rattle.av_perm.specs.Lists.{counting}
@@ -7,10 +7,10 @@ use Rattle.av_perm.specs.Stat.{statistic_of}
 use Rattle.av_perm.specs.declared.StatKind.{StatKind}
 use Rattle.av_perm.proofs.Ascending.{ascending_filter, ascending_counting}
 use Rattle.av_perm.proofs.Membership.{In_map, In_filter, filter_In, counting_In}
-use Rattle.av_stat.specs.declared.bars.Bar.{Bar}
-use Rattle.av_stat.specs.Histograms.{how_many, greatest, bar, bars, bars_of}
-use Rattle.av_stat.specs.Laws.{IsHistogram}
-use Rattle.av_stat.proofs.Counted.{present, at_most_greatest}
+use Rattle.av_bars.specs.declared.bars.Bar.{Bar}
+use Rattle.av_bars.specs.Histograms.{how_many, greatest, bar, bars, bars_of}
+use Rattle.av_bars.specs.Laws.{IsHistogram}
+use Rattle.av_bars.proofs.Counted.{present, at_most_greatest}
 
 -- the values below n that some have
 abbrev values : (ℕ → ℕ) → ℕ → List ℕ

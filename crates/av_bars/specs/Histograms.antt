@@ -1,19 +1,10 @@
 -- Histograms: which values the words of a list have, and how many words have each.
-use Rattle.std.specs.Prelude.{◌≡◌, ℕ, suc, ◌<◌, List, [], ◌∷◌, map, filter, max, cond, nat_eq, nat_lt, length, slice_index, IsTrue}
+use Rattle.std.specs.Prelude.{◌≡◌, ℕ, suc, ◌<◌, List, [], ◌∷◌, map, filter, max, cond, nat_eq, nat_lt, length, slice_index}
 use Rattle.av_perm.specs.Lists.{counting}
 use Rattle.av_perm.specs.Members.{In}
 use Rattle.av_perm.specs.Stat.{statistic_of}
-use Rattle.av_perm.specs.Word.{is_perm}
 use Rattle.av_perm.specs.declared.StatKind.{StatKind}
-use Rattle.av_stat.specs.declared.bars.Bar.{Bar}
-
--- a closure whose answers on a word are these answers the statistic of the kind
-abbrev pub Answers : StatKind → (List ℕ → ℕ → Type 0) → Type 0
-Answers kind gives = (w : List ℕ) (n : ℕ) → IsTrue (is_perm w) → gives w n → n ≡ statistic_of kind w
-
--- the words of items
-abbrev pub words_of : List (ℕ × List ℕ) → List (List ℕ)
-words_of items = map (λ (i : ℕ × List ℕ). i.1) items
+use Rattle.av_bars.specs.declared.bars.Bar.{Bar}
 
 -- how many of the words have the value
 unfoldable pub how_many : StatKind → List (List ℕ) → ℕ → ℕ

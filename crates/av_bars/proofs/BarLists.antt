@@ -4,8 +4,8 @@ use Rattle.std.proofs.lemmas.List.{map-append}
 use Rattle.std.proofs.lemmas.List.Elements.{filter-append}
 use Rattle.av_perm.specs.Lists.{counting}
 use Rattle.av_perm.proofs.LexOrder.{counting_more}
-use Rattle.av_stat.specs.declared.bars.Bar.{Bar}
-use Rattle.av_stat.specs.Histograms.{bar, bar_at, bars_of}
+use Rattle.av_bars.specs.declared.bars.Bar.{Bar}
+use Rattle.av_bars.specs.Histograms.{bar, bar_at, bars_of}
 
 one_bar : (f : ℕ → ℕ) (v : ℕ) → map (λ u. bar u (f u)) (filter (λ u. nat_lt 0 (f u)) (v ∷ [])) ≡ bar_at v (f v)
 one_bar f v = by (nat_lt 0 (f v))

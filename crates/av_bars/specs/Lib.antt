@@ -1,0 +1,4 @@
+-- Histograms and distributions of lists of words.
+pub mod Histograms
+pub mod Distributions
+pub mod Laws
