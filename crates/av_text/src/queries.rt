@@ -9,7 +9,7 @@ use crate::limits::{
 };
 use crate::numerals::number_in;
 use crate::statistics::{dist_kind_in, statistic_in};
-use crate::words::word_in;
+use crate::words::read_word;
 use av_perm::{MAX_LENGTH, MAX_STATISTIC, Perm, StatKind};
 
 /// The forms of a query, each named by its first token.
@@ -269,10 +269,10 @@ fn query_with_one(form: Form, a: &[u8]) -> Result<Query, Kind>
             many: DEFAULT_LISTED,
         }),
         Form::Rank => Ok(Query::Rank {
-            word: word_in(a, MAX_LENGTH)?,
+            word: read_word(a, MAX_LENGTH)?,
         }),
         Form::Tree => Ok(Query::Tree {
-            word: word_in(a, MAX_LENGTH)?,
+            word: read_word(a, MAX_LENGTH)?,
         }),
         _ => Err(Kind::UnknownQuery),
     }

@@ -9,7 +9,7 @@ use crate::limits::{MAX_FORMAT, MAX_PATTERNS};
 use crate::numerals::number_in;
 use crate::queries::{Query, query_of};
 use crate::tokens::{all_allowed, tokens};
-use crate::words::word_in;
+use crate::words::read_word;
 use av_perm::{MAX_PATTERN_LENGTH, Memory, Words};
 use std::alloc::{AllocError, Global};
 
@@ -88,7 +88,7 @@ fn patterns(alloc: Global, tokens: &[&[u8]]) -> Result<Words, LineFault>
 {
     let mut words = Words::empty(alloc);
     for token in tokens {
-        let word = word_in(token, MAX_PATTERN_LENGTH)?;
+        let word = read_word(token, MAX_PATTERN_LENGTH)?;
         words.push(word)?;
     }
     Ok(words)

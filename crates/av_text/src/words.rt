@@ -110,16 +110,19 @@ fn comma_word(token: &[u8], limit: usize) -> Result<Perm, Kind>
     checked(&entries, limit)
 }
 
-/// The word of at most `limit` entries that the token spells.
+/// The word of at most `most` entries that the token spells, which is at most `MAX_LENGTH`: by its digits, as `213`, or by two or more
+/// numerals of at most three digits joined by commas, as `2,1,3`. It takes no memory. `BadWord` says that the token has neither
+/// form or its entries aren't the numbers from 1 to their number, `LongWord`, which comes first, that it has one with more
+/// entries.
 #[tactic(auto, unfolding(crate::specs::Words::word_in, crate::specs::Words::entries_of))]
-pub fn word_in(token: &[u8], limit: usize) -> Result<Perm, Kind>
-    requires { limit ≤ MAX_LENGTH }
-    ensures { result ≡ word_in limit token.now }
+pub fn read_word(token: &[u8], most: usize) -> Result<Perm, Kind>
+    requires { most ≤ MAX_LENGTH }
+    ensures { result ≡ word_in most token.now }
 {
     if is_digits(token) {
-        compact_word(token, limit)
+        compact_word(token, most)
     } else if is_comma_form(token) {
-        comma_word(token, limit)
+        comma_word(token, most)
     } else {
         Err(Kind::BadWord)
     }
