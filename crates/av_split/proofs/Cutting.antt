@@ -31,14 +31,14 @@ use Rattle.av_split.proofs.WordSplit.{Fine, Apt, word_law, demands_apt}
 use Rattle.av_split.proofs.MarkedRows.{row_fit, settled_is, settled_row, settled_known, free_row, free_is}
 
 -- two lists whose items agree
-all_same : {A B : Type 0} (R : A → B → Type 0) (F : A → Known) (f : B → Known) → ((x : A) (y : B) → R x y → F x ≡ f y) → (xs : List A) (ys : List B) → Pointwise R xs ys → all_of F xs ≡ all_of f ys
+pub all_same : {A B : Type 0} (R : A → B → Type 0) (F : A → Known) (f : B → Known) → ((x : A) (y : B) → R x y → F x ≡ f y) → (xs : List A) (ys : List B) → Pointwise R xs ys → all_of F xs ≡ all_of f ys
 all_same R F f h [] [] p = refl
 all_same R F f h [] (y ∷ ys) p = absurd p
 all_same R F f h (x ∷ xs) [] p = absurd p
 all_same R F f h (x ∷ xs) (y ∷ ys) p = rw (h x y p.0, all_same R F f h xs ys p.1) refl
 
 -- the same where one suffices
-some_same : {A B : Type 0} (R : A → B → Type 0) (F : A → Known) (f : B → Known) → ((x : A) (y : B) → R x y → F x ≡ f y) → (xs : List A) (ys : List B) → Pointwise R xs ys → some_of F xs ≡ some_of f ys
+pub some_same : {A B : Type 0} (R : A → B → Type 0) (F : A → Known) (f : B → Known) → ((x : A) (y : B) → R x y → F x ≡ f y) → (xs : List A) (ys : List B) → Pointwise R xs ys → some_of F xs ≡ some_of f ys
 some_same R F f h [] [] p = refl
 some_same R F f h [] (y ∷ ys) p = absurd p
 some_same R F f h (x ∷ xs) [] p = absurd p
@@ -52,7 +52,7 @@ OptionOf S None (Some y) = ⊥
 OptionOf S (Some x) None = ⊥
 
 -- the first of two where both lists have it
-at_same : {X Y : Type 0} (S : X → Y → Type 0) (k l : Known) (o o' : Option X) (p p' : Option Y) → k ≡ l → OptionOf S o p → OptionOf S o' p' → OptionOf S (at_open k o o') (at_open l p p')
+pub at_same : {X Y : Type 0} (S : X → Y → Type 0) (k l : Known) (o o' : Option X) (p p' : Option Y) → k ≡ l → OptionOf S o p → OptionOf S o' p' → OptionOf S (at_open k o o') (at_open l p p')
 at_same S k l o o' p p' e a b = subst (λ m. OptionOf S (at_open k o o') (at_open m p p')) e (by k)
   where
     by : (k : Known) → OptionOf S (at_open k o o') (at_open k p p')
@@ -61,7 +61,7 @@ at_same S k l o o' p p' e a b = subst (λ m. OptionOf S (at_open k o o') (at_ope
     by Open = a
 
 -- what is picked at the first open item
-first_same : {A B X Y : Type 0} (R : A → B → Type 0) (F : A → Known) (f : B → Known) (G : A → Option X) (g : B → Option Y) (S : X → Y → Type 0) → ((x : A) (y : B) → R x y → F x ≡ f y)
+pub first_same : {A B X Y : Type 0} (R : A → B → Type 0) (F : A → Known) (f : B → Known) (G : A → Option X) (g : B → Option Y) (S : X → Y → Type 0) → ((x : A) (y : B) → R x y → F x ≡ f y)
     → ((x : A) (y : B) → R x y → OptionOf S (G x) (g y)) → (xs : List A) (ys : List B) → Pointwise R xs ys → OptionOf S (first_open F G xs) (first_open f g ys)
 first_same R F f G g S h k [] [] p = tt
 first_same R F f G g S h k [] (y ∷ ys) p = absurd p
@@ -72,11 +72,11 @@ first_same R F f G g S h k (x ∷ xs) (y ∷ ys) p =
 -- demands by cells and by queries agree where the answers do
 module _ (k : ℕ) (ps : List (List ℕ)) (F : Cell → Known) (f : Query → Known) (same : (cell : Cell) (q : Query) → IsQueryOf k ps cell q → F cell ≡ f q) where
   -- an embedding
-  embedding_same : (cells : List Cell) (qs : List Query) → AreQueriesOf k ps cells qs → all_of F cells ≡ all_of f qs
+  pub embedding_same : (cells : List Cell) (qs : List Query) → AreQueriesOf k ps cells qs → all_of F cells ≡ all_of f qs
   embedding_same = all_same (IsQueryOf k ps) F f same
 
   -- a demand
-  demand_same : (d : Demand Cell) (e : Demand Query) → IsDemandOf k ps d e → demand_known F d ≡ demand_known f e
+  pub demand_same : (d : Demand Cell) (e : Demand Query) → IsDemandOf k ps d e → demand_known F d ≡ demand_known f e
   demand_same d e i = ap₂ turned i.required (some_same (AreQueriesOf k ps) (all_of F) (all_of f) embedding_same d.embeddings e.embeddings i.embeddings)
 
   -- all demands
@@ -93,32 +93,32 @@ module _ (k : ℕ) (ps : List (List ℕ)) (F : Cell → Known) (f : Query → Kn
       (first_same (IsQueryOf k ps) F f (λ (q : Cell). Some q) (λ (q : Query). Some q) (IsQueryOf k ps) same (λ x y j. j)) d.embeddings e.embeddings i.embeddings)
 
 -- an item of a list has its partner
-pointwise_In : {A B : Type 0} (R : A → B → Type 0) (xs : List A) (ys : List B) (x : A) → Pointwise R xs ys → In x xs → (y : B) × R x y
+pub pointwise_In : {A B : Type 0} (R : A → B → Type 0) (xs : List A) (ys : List B) (x : A) → Pointwise R xs ys → In x xs → (y : B) × R x y
 pointwise_In R [] ys x p i = absurd i
 pointwise_In R (z ∷ xs) [] x p i = absurd p
 pointwise_In R (z ∷ xs) (y ∷ ys) x p (inl e) = (y, subst (λ w. R w y) (sym e) p.0)
 pointwise_In R (z ∷ xs) (y ∷ ys) x p (inr i) = pointwise_In R xs ys x p.1 i
 
 -- a list begins with items of it
-take_In : {A : Type 0} (n : ℕ) (xs : List A) (x : A) → In x (take n xs) → In x xs
+pub take_In : {A : Type 0} (n : ℕ) (xs : List A) (x : A) → In x (take n xs) → In x xs
 take_In zero xs x i = absurd i
 take_In (suc n) [] x i = absurd i
 take_In (suc n) (y ∷ xs) x (inl e) = inl e
 take_In (suc n) (y ∷ xs) x (inr i) = inr (take_In n xs x i)
 
 -- the constraint of a child
-child_is : (ps : List (List ℕ)) (rows : List (List Mark)) (i : ℕ) → i < length rows → child_of (box_of ps rows) i ≡ constraint_of ps (get_or rows i [])
+pub child_is : (ps : List (List ℕ)) (rows : List (List Mark)) (i : ℕ) → i < length rows → child_of (box_of ps rows) i ≡ constraint_of ps (get_or rows i [])
 child_is ps rows i h = get_or-map (constraint_of ps) rows i [] free h
 
 -- what is known of a cell is what its constraint tells of its pattern
-cell_known : (k : ℕ) (ps : List (List ℕ)) (rows : List (List Mark)) (cell : Cell) (q : Query) → AreRows k ps rows → IsQueryOf k ps cell q → known_at rows cell ≡ word_rules.answer (box_of ps rows) q
+pub cell_known : (k : ℕ) (ps : List (List ℕ)) (rows : List (List Mark)) (cell : Cell) (q : Query) → AreRows k ps rows → IsQueryOf k ps cell q → known_at rows cell ≡ word_rules.answer (box_of ps rows) q
 cell_known k ps rows cell q r i =
     (r.each cell.child i.child).known cell.pattern i.pattern
     ∙ ap (λ c. answer c (get_or ps cell.pattern [])) (sym (child_is ps rows cell.child (let n = r.count in let h = i.child in omega arith)))
     ∙ ap (word_rules.answer (box_of ps rows)) i.query
 
 -- the box of the rows is fine
-rows_fine : (k : ℕ) (ps : List (List ℕ)) (rows : List (List Mark)) → AreRows k ps rows → Fine k (box_of ps rows)
+pub rows_fine : (k : ℕ) (ps : List (List ℕ)) (rows : List (List Mark)) → AreRows k ps rows → Fine k (box_of ps rows)
 rows_fine k ps rows r = record {
   count = length-map rows (constraint_of ps) ∙ r.count;
   fit = λ i h. subst IsFit (sym (child_is ps rows i (let n = r.count in omega arith))) (row_fit ps (get_or rows i []) (r.each i h));
@@ -126,14 +126,14 @@ rows_fine k ps rows r = record {
 }
 
 -- the cell of a query is one of the rows
-query_cell : (k : ℕ) (ps : List (List ℕ)) (rows : List (List Mark)) (cell : Cell) (q : Query) → AreRows k ps rows → IsQueryOf k ps cell q → IsCellOf rows cell
+pub query_cell : (k : ℕ) (ps : List (List ℕ)) (rows : List (List Mark)) (cell : Cell) (q : Query) → AreRows k ps rows → IsQueryOf k ps cell q → IsCellOf rows cell
 query_cell k ps rows cell q r i = record {
   child = let n = r.count in let h = i.child in omega arith;
   pattern = let n = (r.each cell.child i.child).size in let h = i.pattern in omega arith;
 }
 
 -- each cell of the demands has its query
-cell_query : (k : ℕ) (ps : List (List ℕ)) (ds : List (Demand Cell)) (es : List (Demand Query)) → AreDemandsOf k ps ds es → (d : Demand Cell) → In d ds → (cells : List Cell) → In cells d.embeddings → (cell : Cell) → In cell cells
+pub cell_query : (k : ℕ) (ps : List (List ℕ)) (ds : List (Demand Cell)) (es : List (Demand Query)) → AreDemandsOf k ps ds es → (d : Demand Cell) → In d ds → (cells : List Cell) → In cells d.embeddings → (cell : Cell) → In cell cells
     → (q : Query) × IsQueryOf k ps cell q
 cell_query k ps ds es a d i cells j cell l =
     let e = pointwise_In (IsDemandOf k ps) ds es d a i in
@@ -141,10 +141,10 @@ cell_query k ps ds es a d i cells j cell l =
     pointwise_In (IsQueryOf k ps) cells m.0 cell m.1 l
 
 -- where one answer is the other is so too
-abbrev Passes : {A : Type 0} → Known → (A → Known) → (A → Known) → A → Type 0
+abbrev pub Passes : {A : Type 0} → Known → (A → Known) → (A → Known) → A → Type 0
 Passes k f g x = f x ≡ k → g x ≡ k
 
-all_pass : {A : Type 0} (k : Known) (f g : A → Known) (xs : List A) → (k ≡ Open → ⊥) → Each (Passes k f g) xs → all_of f xs ≡ k → all_of g xs ≡ k
+pub all_pass : {A : Type 0} (k : Known) (f g : A → Known) (xs : List A) → (k ≡ Open → ⊥) → Each (Passes k f g) xs → all_of f xs ≡ k → all_of g xs ≡ k
 all_pass Inside f g [] n h e = refl
 all_pass Outside f g [] n h e = absurd (cc)
 all_pass Open f g xs n h e = absurd (n refl)
@@ -154,7 +154,7 @@ all_pass Outside f g (x ∷ xs) n h e = elim (both_outside (f x) (all_of f xs) e
   | inr q ↦ ap (both (g x)) (all_pass Outside f g xs n (λ y i. h y (inr i)) q) ∙ both_out (g x)
 ]
 
-some_pass : {A : Type 0} (k : Known) (f g : A → Known) (xs : List A) → (k ≡ Open → ⊥) → Each (Passes k f g) xs → some_of f xs ≡ k → some_of g xs ≡ k
+pub some_pass : {A : Type 0} (k : Known) (f g : A → Known) (xs : List A) → (k ≡ Open → ⊥) → Each (Passes k f g) xs → some_of f xs ≡ k → some_of g xs ≡ k
 some_pass Inside f g [] n h e = absurd (cc)
 some_pass Outside f g [] n h e = refl
 some_pass Open f g xs n h e = absurd (n refl)
@@ -164,11 +164,11 @@ some_pass Inside f g (x ∷ xs) n h e = elim (either_inside (f x) (some_of f xs)
   | inr q ↦ ap (either (g x)) (some_pass Inside f g xs n (λ y i. h y (inr i)) q) ∙ either_in (g x)
 ]
 
-turned_twice : (w : Bool) (k : Known) → turned w (turned w k) ≡ k
+pub turned_twice : (w : Bool) (k : Known) → turned w (turned w k) ≡ k
 turned_twice w k = grind arith
 
 -- a demand, where that holds of its cells, as its kind turns it
-demand_pass : (k : Known) (f g : Cell → Known) (d : Demand Cell) → (k ≡ Open → ⊥) → ((m : List Cell) → In m d.embeddings → Each (Passes (turned d.required k) f g) m) → demand_known f d ≡ k → demand_known g d ≡ k
+pub demand_pass : (k : Known) (f g : Cell → Known) (d : Demand Cell) → (k ≡ Open → ⊥) → ((m : List Cell) → In m d.embeddings → Each (Passes (turned d.required k) f g) m) → demand_known f d ≡ k → demand_known g d ≡ k
 demand_pass k f g d n h e =
     let w : Bool = d.required in
     let settled : turned w k ≡ Open → ⊥ = λ o. n (turned_open w k o) in
@@ -176,46 +176,46 @@ demand_pass k f g d n h e =
     (some_pass (turned w k) (all_of f) (all_of g) d.embeddings settled (λ m i. all_pass (turned w k) f g m settled (h m i)) (sym (turned_twice w (some_of (all_of f) d.embeddings)) ∙ ap (turned w) e))
     ∙ turned_twice w k
 
-inside_open : Inside ≡ Open → ⊥
+pub inside_open : Inside ≡ Open → ⊥
 inside_open e = cc
 
-outside_open : Outside ≡ Open → ⊥
+pub outside_open : Outside ≡ Open → ⊥
 outside_open e = cc
 
 -- of demands that are open together none is broken
-outside_one : {A : Type 0} (f : A → Known) (xs : List A) (x : A) → In x xs → f x ≡ Outside → all_of f xs ≡ Outside
+pub outside_one : {A : Type 0} (f : A → Known) (xs : List A) (x : A) → In x xs → f x ≡ Outside → all_of f xs ≡ Outside
 outside_one f [] x i o = absurd i
 outside_one f (y ∷ xs) x (inl q) o = ap (λ k. both k (all_of f xs)) (ap f (sym q) ∙ o)
 outside_one f (y ∷ xs) x (inr j) o = ap (both (f y)) (outside_one f xs x j o) ∙ both_out (f y)
 
-open_none : {A : Type 0} (f : A → Known) (xs : List A) (x : A) → all_of f xs ≡ Open → In x xs → f x ≡ Outside → ⊥
+pub open_none : {A : Type 0} (f : A → Known) (xs : List A) (x : A) → all_of f xs ≡ Open → In x xs → f x ≡ Outside → ⊥
 open_none f xs x e i o = outside_open (sym (outside_one f xs x i o) ∙ e)
 
 -- what is known stays known, and only what is required is found to be, or only what is avoided
-once_keeps : (r b : Bool) (k l : Known) → (l ≡ Open → ⊥) → k ≡ l → once r b k ≡ l
+pub once_keeps : (r b : Bool) (k l : Known) → (l ≡ Open → ⊥) → k ≡ l → once r b k ≡ l
 once_keeps r b k l n e = grind arith
 
-once_other : (r b : Bool) (k : Known) → once r b k ≡ turned r Outside → k ≡ turned r Outside
+pub once_other : (r b : Bool) (k : Known) → once r b k ≡ turned r Outside → k ≡ turned r Outside
 once_other r b k e = grind arith
 
 -- the rows once the pattern of a cell is settled
 module _ (r : Bool) (k : ℕ) (ps : List (List ℕ)) (rows next : List (List Mark)) (row : List Mark) (cell : Cell) (is : AreRows k ps rows) (h : cell.child < k) (g : cell.pattern < length ps) (word : IsWord (get_or ps cell.pattern []))
     (unknown : known_at rows cell ≡ Open) (s : IsSettled r ps cell.pattern (get_or rows cell.child []) row) (e : next ≡ set rows cell.child row) where
-  here : cell.child < length rows
+  pub here : cell.child < length rows
   here = let n = is.count in omega arith
 
-  next_box : box_of ps next ≡ word_rules.settle r (box_of ps rows) (query_at ps cell)
+  pub next_box : box_of ps next ≡ word_rules.settle r (box_of ps rows) (query_at ps cell)
   next_box =
       ap (box_of ps) e ∙ map-set (constraint_of ps) rows cell.child row
       ∙ ap (set (box_of ps rows) cell.child) (settled_is r ps cell.pattern (get_or rows cell.child []) row (is.each cell.child h) g word unknown s ∙ ap (λ c. added r c (get_or ps cell.pattern [])) (sym (child_is ps rows cell.child here)))
 
-  same_row : get_or next cell.child [] ≡ row
+  pub same_row : get_or next cell.child [] ≡ row
   same_row = ap (λ (l : List (List Mark)). get_or l cell.child []) e ∙ get_or-set_same rows cell.child row [] here
 
-  other_row : (j : ℕ) → (j ≡ cell.child → ⊥) → get_or next j [] ≡ get_or rows j []
+  pub other_row : (j : ℕ) → (j ≡ cell.child → ⊥) → get_or next j [] ≡ get_or rows j []
   other_row j n = ap (λ (l : List (List Mark)). get_or l j []) e ∙ get_or-set_other rows cell.child j row [] n
 
-  next_rows : AreRows k ps next
+  pub next_rows : AreRows k ps next
   next_rows = record {
     count = ap length e ∙ length-set rows cell.child row ∙ is.count;
     each = λ j l. elim (cases_eq j cell.child) [
@@ -225,7 +225,7 @@ module _ (r : Bool) (k : ℕ) (ps : List (List ℕ)) (rows next : List (List Mar
   }
 
   -- what becomes of what is known of a cell
-  next_known : (other : Cell) → other.pattern < length ps → (t : Bool) × (known_at next other ≡ once r t (known_at rows other))
+  pub next_known : (other : Cell) → other.pattern < length ps → (t : Bool) × (known_at next other ≡ once r t (known_at rows other))
   next_known other p = elim (cases_eq other.child cell.child) [
     | inl q ↦ (
       relates r ps cell.pattern other.pattern,
@@ -240,24 +240,24 @@ module _ (r : Bool) (k : ℕ) (ps : List (List ℕ)) (rows next : List (List Mar
       none r k = grind arith
 
 -- how many steps a box with n open queries takes at most
-abbrev weight : ℕ → ℕ
+abbrev pub weight : ℕ → ℕ
 weight zero = 1
 weight (suc n) = suc (weight n + weight n)
 
 -- more open queries weigh more
-weight_mono : (a n : ℕ) → a ≤ n → weight a ≤ weight n
+pub weight_mono : (a n : ℕ) → a ≤ n → weight a ≤ weight n
 weight_mono zero zero h = omega arith
 weight_mono zero (suc n) h = omega arith
 weight_mono (suc a) zero h = absurd (omega arith)
 weight_mono (suc a) (suc n) h = let r = weight_mono a n (omega arith) in omega arith
 
 -- two boxes with fewer open queries weigh less together
-weight_two : (a b n : ℕ) → a < n → b < n → weight a + weight b < weight n
+pub weight_two : (a b n : ℕ) → a < n → b < n → weight a + weight b < weight n
 weight_two a b zero h k = absurd (omega arith)
 weight_two a b (suc n) h k = let r = weight_mono a n (omega arith) in let s = weight_mono b n (omega arith) in omega arith
 
 -- some weight
-weight_some : (n : ℕ) → 1 ≤ weight n
+pub weight_some : (n : ℕ) → 1 ≤ weight n
 weight_some zero = omega arith
 weight_some (suc n) = omega arith
 
@@ -266,14 +266,14 @@ abbrev pub weights : List (Demand Query) → List Box → ℕ
 weights ds [] = 0
 weights ds (b ∷ bs) = weight (open_count (word_rules.answer b) (queries_of ds)) + weights ds bs
 
-none : {A : Type 0} {x : A} → None ≡ Some x → ⊥
+pub none : {A : Type 0} {x : A} → None ≡ Some x → ⊥
 none e = cc
 
-some : {A : Type 0} {x y : A} → Some x ≡ Some y → x ≡ y
+pub some : {A : Type 0} {x y : A} → Some x ≡ Some y → x ≡ y
 some e = cc
 
 -- an item of a list is one of the list from its end on
-In_reverse : {A : Type 0} (xs : List A) (x : A) → In x xs → In x (reverse xs)
+pub In_reverse : {A : Type 0} (xs : List A) (x : A) → In x xs → In x (reverse xs)
 In_reverse [] x i = absurd i
 In_reverse (y ∷ xs) x (inl e) = subst (In x) (sym (reverse-append (y ∷ []) xs)) (append_right (reverse xs) (y ∷ []) x (inl e))
 In_reverse (y ∷ xs) x (inr j) = subst (In x) (sym (reverse-append (y ∷ []) xs)) (append_left (reverse xs) (y ∷ []) x (In_reverse xs x j))
@@ -284,7 +284,7 @@ given None = []
 given (Some b) = b ∷ []
 
 -- an item that is put back
-set_back : {A : Type 0} (xs : List A) (i : ℕ) (x d : A) → i < length xs → set (set xs i x) i (get_or xs i d) ≡ xs
+pub set_back : {A : Type 0} (xs : List A) (i : ℕ) (x d : A) → i < length xs → set (set xs i x) i (get_or xs i d) ≡ xs
 set_back [] i x d h = absurd (omega arith)
 set_back (y ∷ xs) zero x d h = refl
 set_back (y ∷ xs) (suc i) x d h = ap (λ l. y ∷ l) (set_back xs i x d (omega arith))
@@ -298,7 +298,7 @@ pub record Advanced (k : ℕ) (ps : List (List ℕ)) (ds : List (Demand Cell)) (
 -- of one root and name
 module _ (π : List ℕ) (A R ps : List (List ℕ)) (ds : List (Demand Cell)) (ga : Each IsWord A) (gr : Each IsWord R) (asked : AreDemandsOf (length π) ps ds (demands π A R)) where
   -- the queries are of the children
-  apt : Each (Apt (length π)) (queries_of (demands π A R))
+  pub apt : Each (Apt (length π)) (queries_of (demands π A R))
   apt = demands_apt π A R ga gr
 
   -- the cells of the demands are in the rows
@@ -389,7 +389,7 @@ module _ (π : List ℕ) (A R ps : List (List ℕ)) (ds : List (Demand Cell)) (g
         kind d s = let e : Some r ≡ Some d.required = sym x.last ∙ s in cc
 
   -- the way back leads to the parts that are left
-  back_parts : (turns : List Turn) (rows : List (List Mark)) (next : Option Path) → AreCuts (length π) ps ds turns rows → GoesBack ps turns rows next
+  pub back_parts : (turns : List Turn) (rows : List (List Mark)) (next : Option Path) → AreCuts (length π) ps ds turns rows → GoesBack ps turns rows next
       → ((q : Path) → next ≡ Some q → IsPath (length π) ps ds q) × (parts_of ps next ≡ parts_left ps turns rows)
   back_parts [] rows next c g = (λ q e. absurd (none (sym g ∙ e)), ap (parts_of ps) g)
   back_parts (t ∷ turns) rows next c g = by t.required (back_parts turns (before t rows) next c.1) g
@@ -407,7 +407,7 @@ module _ (π : List ℕ) (A R ps : List (List ℕ)) (ds : List (Demand Cell)) (g
           )
 
   -- its cells are of the rows
-  cuts_turns : (turns : List Turn) (rows : List (List Mark)) → AreCuts (length π) ps ds turns rows → length rows ≡ length π → AreTurns ps turns rows
+  pub cuts_turns : (turns : List Turn) (rows : List (List Mark)) → AreCuts (length π) ps ds turns rows → length rows ≡ length π → AreTurns ps turns rows
   cuts_turns [] rows c n t i = absurd i
   cuts_turns (s ∷ turns) rows c n t i = by i (cuts_turns turns (before s rows) c.1 (long ∙ n) t)
     where
@@ -519,14 +519,14 @@ module _ (π : List ℕ) (A R ps : List (List ℕ)) (ds : List (Demand Cell)) (r
       }
 
 -- a list of free rows
-free_rows : (k : ℕ) (ps : List (List ℕ)) → AreRows k ps (replicate k (map free_mark ps))
+pub free_rows : (k : ℕ) (ps : List (List ℕ)) → AreRows k ps (replicate k (map free_mark ps))
 free_rows k ps = record {
   count = length-replicate k (map free_mark ps);
   each = λ i h. subst (IsRow ps) (sym (get_or-replicate k i (map free_mark ps) [] h)) (free_row ps);
 }
 
 -- the box in which nothing is avoided or required
-free_box : (k : ℕ) (ps : List (List ℕ)) → box_of ps (replicate k (map free_mark ps)) ≡ replicate k free
+pub free_box : (k : ℕ) (ps : List (List ℕ)) → box_of ps (replicate k (map free_mark ps)) ≡ replicate k free
 free_box zero ps = refl
 free_box (suc k) ps = ap₂ (λ (c : Constraint) (b : Box). c ∷ b) (free_is ps) (free_box k ps)
 

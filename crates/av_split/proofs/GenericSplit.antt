@@ -14,7 +14,7 @@ both_inside x y e = grind arith
 pub both_outside : (x y : Known) → both x y ≡ Outside → (x ≡ Outside) ⊎ (y ≡ Outside)
 both_outside x y e = grind arith
 
-both_open : (x y : Known) → both x y ≡ Open → (x ≡ Open) ⊎ ((x ≡ Inside) × (y ≡ Open))
+pub both_open : (x y : Known) → both x y ≡ Open → (x ≡ Open) ⊎ ((x ≡ Inside) × (y ≡ Open))
 both_open x y e = grind arith
 
 pub either_inside : (x y : Known) → either x y ≡ Inside → (x ≡ Inside) ⊎ (y ≡ Inside)
@@ -23,7 +23,7 @@ either_inside x y e = grind arith
 pub either_outside : (x y : Known) → either x y ≡ Outside → (x ≡ Outside) × (y ≡ Outside)
 either_outside x y e = grind arith
 
-either_open : (x y : Known) → either x y ≡ Open → (x ≡ Open) ⊎ ((x ≡ Outside) × (y ≡ Open))
+pub either_open : (x y : Known) → either x y ≡ Open → (x ≡ Open) ⊎ ((x ≡ Outside) × (y ≡ Open))
 either_open x y e = grind arith
 
 pub both_out : (k : Known) → both k Outside ≡ Outside
@@ -50,7 +50,7 @@ one_outside f (y ∷ xs) e = elim (both_outside (f y) (all_of f xs) e) [
   | inr q ↦ let r = one_outside f xs q in (r.0, inr r.1, r.2)
 ]
 
-one_inside : {A : Type 0} (f : A → Known) (xs : List A) → some_of f xs ≡ Inside → SomeIn (λ x. f x ≡ Inside) xs
+pub one_inside : {A : Type 0} (f : A → Known) (xs : List A) → some_of f xs ≡ Inside → SomeIn (λ x. f x ≡ Inside) xs
 one_inside f [] e = absurd (cc)
 one_inside f (y ∷ xs) e = elim (either_inside (f y) (some_of f xs) e) [
   | inl q ↦ (y, inl refl, q)
@@ -62,13 +62,13 @@ pub record Says {A : Type 0} (f : A → Known) (P : A → Type 0) (x : A) : Type
   pub inside : f x ≡ Inside → P x
   pub outside : f x ≡ Outside → P x → ⊥
 
-all_says : {A : Type 0} (f : A → Known) (P : A → Type 0) (xs : List A) → Each (Says f P) xs → Says (all_of f) (Each P) xs
+pub all_says : {A : Type 0} (f : A → Known) (P : A → Type 0) (xs : List A) → Each (Says f P) xs → Says (all_of f) (Each P) xs
 all_says f P xs s = record {
   inside = λ e x i. (s x i).inside (each_inside f xs e x i);
   outside = λ e h. let r = one_outside f xs e in (s r.0 r.1).outside r.2 (h r.0 r.1);
 }
 
-some_says : {A : Type 0} (f : A → Known) (P : A → Type 0) (xs : List A) → Each (Says f P) xs → Says (some_of f) (SomeIn P) xs
+pub some_says : {A : Type 0} (f : A → Known) (P : A → Type 0) (xs : List A) → Each (Says f P) xs → Says (some_of f) (SomeIn P) xs
 some_says f P xs s = record {
   inside = λ e. let r = one_inside f xs e in (r.0, r.1, (s r.0 r.1).inside r.2);
   outside = λ e h. (s h.0 h.1).outside (each_outside f xs e h.0 h.1) h.2;
@@ -82,22 +82,22 @@ MetIf false X = X → ⊥
 abbrev pub Met : {Q : Type 0} → (Q → Type 0) → Demand Q → Type 0
 Met H d = MetIf d.required (SomeIn (Each H) d.embeddings)
 
-turned_says : (w : Bool) (k : Known) (X : Type 0) → (k ≡ Inside → X) → (k ≡ Outside → X → ⊥) → (turned w k ≡ Inside → MetIf w X) × (turned w k ≡ Outside → MetIf w X → ⊥)
+pub turned_says : (w : Bool) (k : Known) (X : Type 0) → (k ≡ Inside → X) → (k ≡ Outside → X → ⊥) → (turned w k ≡ Inside → MetIf w X) × (turned w k ≡ Outside → MetIf w X → ⊥)
 turned_says true k X i o = (i, o)
 turned_says false Inside X i o = (λ e. absurd (cc), λ e h. h (i refl))
 turned_says false Outside X i o = (λ e. o refl, λ e. absurd (cc))
 turned_says false Open X i o = (λ e. absurd (cc), λ e. absurd (cc))
 
-demand_says : {Q : Type 0} (f : Q → Known) (H : Q → Type 0) (d : Demand Q) → ((m : List Q) → In m d.embeddings → Each (Says f H) m) → Says (demand_known f) (Met H) d
+pub demand_says : {Q : Type 0} (f : Q → Known) (H : Q → Type 0) (d : Demand Q) → ((m : List Q) → In m d.embeddings → Each (Says f H) m) → Says (demand_known f) (Met H) d
 demand_says {Q = Q} f H d s =
     let a = some_says (all_of f) (Each H) d.embeddings (λ (m : List Q) i. all_says f H m (s m i)) in
     let t = turned_says d.required (some_of (all_of f) d.embeddings) (SomeIn (Each H) d.embeddings) a.inside a.outside in
     record { inside = t.0; outside = t.1 }
 
-query_In : {Q : Type 0} (ds : List (Demand Q)) (d : Demand Q) (m : List Q) (q : Q) → In d ds → In m d.embeddings → In q m → In q (queries_of ds)
+pub query_In : {Q : Type 0} (ds : List (Demand Q)) (d : Demand Q) (m : List Q) (q : Q) → In d ds → In m d.embeddings → In q m → In q (queries_of ds)
 query_In {Q = Q} ds d m q i j k = flat_map_In (λ (d : Demand Q). flat_map (λ (m : List Q). m) d.embeddings) ds d q i (flat_map_In (λ (m : List Q). m) d.embeddings m q j k)
 
-demands_say : {Q : Type 0} (f : Q → Known) (H : Q → Type 0) (ds : List (Demand Q)) → Each (Says f H) (queries_of ds) → Says (demands_known f) (Each (Met H)) ds
+pub demands_say : {Q : Type 0} (f : Q → Known) (H : Q → Type 0) (ds : List (Demand Q)) → Each (Says f H) (queries_of ds) → Says (demands_known f) (Each (Met H)) ds
 demands_say {Q = Q} f H ds s = all_says (demand_known f) (Met H) ds (λ (d : Demand Q) i. demand_says f H d (λ m j q k. s q (query_In ds d m q i j k)))
 
 pub unflipped : (k : Known) → turned false k ≡ Inside → k ≡ Outside
@@ -107,14 +107,14 @@ unflipped k e = grind arith
 abbrev pub Finds : {X : Type 0} → Option X → (X → Type 0) → Type 0
 Finds {X} o Good = (q : X) × (o ≡ Some q) × Good q
 
-finds_in_all : {A X : Type 0} (f : A → Known) (g : A → Option X) (Good : X → Type 0) (xs : List A) → ((x : A) → In x xs → f x ≡ Open → Finds (g x) Good) → all_of f xs ≡ Open → Finds (first_open f g xs) Good
+pub finds_in_all : {A X : Type 0} (f : A → Known) (g : A → Option X) (Good : X → Type 0) (xs : List A) → ((x : A) → In x xs → f x ≡ Open → Finds (g x) Good) → all_of f xs ≡ Open → Finds (first_open f g xs) Good
 finds_in_all f g Good [] h e = absurd (cc)
 finds_in_all f g Good (x ∷ xs) h e = elim (both_open (f x) (all_of f xs) e) [
   | inl q ↦ let r = h x (inl refl) q in (r.0, ap (λ k. at_open k (g x) (first_open f g xs)) q ∙ r.1, r.2)
   | inr q ↦ let r = finds_in_all f g Good xs (λ y i. h y (inr i)) q.1 in (r.0, ap (λ k. at_open k (g x) (first_open f g xs)) q.0 ∙ r.1, r.2)
 ]
 
-finds_in_some : {A X : Type 0} (f : A → Known) (g : A → Option X) (Good : X → Type 0) (xs : List A) → ((x : A) → In x xs → f x ≡ Open → Finds (g x) Good) → some_of f xs ≡ Open → Finds (first_open f g xs) Good
+pub finds_in_some : {A X : Type 0} (f : A → Known) (g : A → Option X) (Good : X → Type 0) (xs : List A) → ((x : A) → In x xs → f x ≡ Open → Finds (g x) Good) → some_of f xs ≡ Open → Finds (first_open f g xs) Good
 finds_in_some f g Good [] h e = absurd (cc)
 finds_in_some f g Good (x ∷ xs) h e = elim (either_open (f x) (some_of f xs) e) [
   | inl q ↦ let r = h x (inl refl) q in (r.0, ap (λ k. at_open k (g x) (first_open f g xs)) q ∙ r.1, r.2)
@@ -134,7 +134,7 @@ next_finds {Q = Q} f ds e =
     e
 
 -- how many queries_of are open
-abbrev open_one : Known → ℕ
+abbrev pub open_one : Known → ℕ
 open_one Open = 1
 open_one Inside = 0
 open_one Outside = 0
@@ -143,24 +143,24 @@ abbrev pub open_count : {Q : Type 0} → (Q → Known) → List Q → ℕ
 open_count f [] = 0
 open_count f (q ∷ qs) = open_one (f q) + open_count f qs
 
-open_one_le : (k : Known) → open_one k ≤ 1
+pub open_one_le : (k : Known) → open_one k ≤ 1
 open_one_le k = grind arith
 
-open_one_mono : (k l : Known) → (k ≡ Open → l ≡ Open) → open_one k ≤ open_one l
+pub open_one_mono : (k l : Known) → (k ≡ Open → l ≡ Open) → open_one k ≤ open_one l
 open_one_mono k l h = grind arith
 
-open_one_none : (k : Known) → (k ≡ Open → ⊥) → open_one k ≡ 0
+pub open_one_none : (k : Known) → (k ≡ Open → ⊥) → open_one k ≡ 0
 open_one_none k h = grind arith
 
 pub open_count_length : {Q : Type 0} (f : Q → Known) (qs : List Q) → open_count f qs ≤ length qs
 open_count_length f [] = omega arith
 open_count_length f (q ∷ qs) = omega (arith, open_one_le (f q), open_count_length f qs)
 
-open_count_mono : {Q : Type 0} (f g : Q → Known) (qs : List Q) → ((q : Q) → In q qs → f q ≡ Open → g q ≡ Open) → open_count f qs ≤ open_count g qs
+pub open_count_mono : {Q : Type 0} (f g : Q → Known) (qs : List Q) → ((q : Q) → In q qs → f q ≡ Open → g q ≡ Open) → open_count f qs ≤ open_count g qs
 open_count_mono f g [] h = omega arith
 open_count_mono f g (q ∷ qs) h = omega (arith, open_one_mono (f q) (g q) (h q (inl refl)), open_count_mono f g qs (λ r i. h r (inr i)))
 
-open_count_less : {Q : Type 0} (f g : Q → Known) (qs : List Q) (p : Q) → ((q : Q) → In q qs → f q ≡ Open → g q ≡ Open) → In p qs → g p ≡ Open → (f p ≡ Open → ⊥) → open_count f qs < open_count g qs
+pub open_count_less : {Q : Type 0} (f g : Q → Known) (qs : List Q) (p : Q) → ((q : Q) → In q qs → f q ≡ Open → g q ≡ Open) → In p qs → g p ≡ Open → (f p ≡ Open → ⊥) → open_count f qs < open_count g qs
 open_count_less f g [] p h i e n = absurd i
 open_count_less f g (q ∷ qs) p h (inl s) e n =
     let a : open_one (g q) ≡ 1 = ap open_one (ap g (sym s) ∙ e) in
@@ -180,7 +180,7 @@ pub record Meant {B Q : Type 0} (r : Rules B Q) (Fine : B → Type 0) (Apt : Q �
   pub lies : (w : Bool) (b : B) (q : Q) → Fine b → Apt q → r.answer b q ≡ Open → Lies (r.settle w b q) ↔ (Lies b × MetIf w (H q))
   pub decided : (q : Q) → Apt q → H q ⊎ (H q → ⊥)
 
-known_cases : (k : Known) → (k ≡ Outside) ⊎ ((k ≡ Inside) ⊎ (k ≡ Open))
+pub known_cases : (k : Known) → (k ≡ Outside) ⊎ ((k ≡ Inside) ⊎ (k ≡ Open))
 known_cases Outside = inl refl
 known_cases Inside = inr (inl refl)
 known_cases Open = inr (inr refl)
@@ -215,15 +215,15 @@ pub asks : {B Q : Type 0} (r : Rules B Q) (ds : List (Demand Q)) (b : B) → dem
 asks r ds b k = let n = next_finds (r.answer b) ds k in (n.0, record { known = k; next = n.1; unknown = n.2.0; there = n.2.1 })
 
 -- the three rules
-split_outside : {B Q : Type 0} (r : Rules B Q) (ds : List (Demand Q)) (d : ℕ) (b : B) → demands_known (r.answer b) ds ≡ Outside → split_by r ds d b ≡ []
+pub split_outside : {B Q : Type 0} (r : Rules B Q) (ds : List (Demand Q)) (d : ℕ) (b : B) → demands_known (r.answer b) ds ≡ Outside → split_by r ds d b ≡ []
 split_outside r ds zero b e = ap (λ k. outcome k b (next_query (r.answer b) ds) (λ q. [])) e
 split_outside r ds (suc d) b e = ap (λ k. outcome k b (next_query (r.answer b) ds) (λ q. split_by r ds d (r.settle false b q) ++ split_by r ds d (r.settle true b q))) e
 
-split_inside : {B Q : Type 0} (r : Rules B Q) (ds : List (Demand Q)) (d : ℕ) (b : B) → demands_known (r.answer b) ds ≡ Inside → split_by r ds d b ≡ b ∷ []
+pub split_inside : {B Q : Type 0} (r : Rules B Q) (ds : List (Demand Q)) (d : ℕ) (b : B) → demands_known (r.answer b) ds ≡ Inside → split_by r ds d b ≡ b ∷ []
 split_inside r ds zero b e = ap (λ k. outcome k b (next_query (r.answer b) ds) (λ q. [])) e
 split_inside r ds (suc d) b e = ap (λ k. outcome k b (next_query (r.answer b) ds) (λ q. split_by r ds d (r.settle false b q) ++ split_by r ds d (r.settle true b q))) e
 
-split_more : {B Q : Type 0} (r : Rules B Q) (ds : List (Demand Q)) (d : ℕ) (b : B) (q : Q) → Asks r ds b q → split_by r ds (suc d) b ≡ split_by r ds d (r.settle false b q) ++ split_by r ds d (r.settle true b q)
+pub split_more : {B Q : Type 0} (r : Rules B Q) (ds : List (Demand Q)) (d : ℕ) (b : B) (q : Q) → Asks r ds b q → split_by r ds (suc d) b ≡ split_by r ds d (r.settle false b q) ++ split_by r ds d (r.settle true b q)
 split_more r ds d b q a = ap₂ (λ k o. outcome k b o (λ q. split_by r ds d (r.settle false b q) ++ split_by r ds d (r.settle true b q))) a.known a.next
 
 module _ {B Q : Type 0} (r : Rules B Q) (Fine : B → Type 0) (Apt : Q → Type 0) (law : Lawful r Fine Apt) (ds : List (Demand Q)) (apt : Each Apt (queries_of ds)) where

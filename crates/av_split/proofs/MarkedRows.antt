@@ -32,7 +32,7 @@ pub record Has (r : Bool) (ps : List (List ℕ)) (row : List Mark) (w : List ℕ
   pub mark : is_named r (get_or row place unmarked) ≡ true
   pub word : w ≡ get_or ps place []
 
-In_named : (r : Bool) (ps : List (List ℕ)) (row : List Mark) (w : List ℕ) → In w (named r ps row) → Has r ps row w
+pub In_named : (r : Bool) (ps : List (List ℕ)) (row : List Mark) (w : List ℕ) → In w (named r ps row) → Has r ps row w
 In_named r [] row w i = absurd i
 In_named r (v ∷ ps) [] w i = absurd i
 In_named r (v ∷ ps) (m ∷ row) w i = elim (cases_Bool (is_named r m)) [
@@ -47,7 +47,7 @@ In_named r (v ∷ ps) (m ∷ row) w i = elim (cases_Bool (is_named r m)) [
     here e f (inl q) = record { place = 0; there = omega arith; mark = e; word = q }
     here e f (inr j) = later (f j)
 
-named_In : (r : Bool) (ps : List (List ℕ)) (row : List Mark) (i : ℕ) → i < length ps → length row ≡ length ps → is_named r (get_or row i unmarked) ≡ true → In (get_or ps i []) (named r ps row)
+pub named_In : (r : Bool) (ps : List (List ℕ)) (row : List Mark) (i : ℕ) → i < length ps → length row ≡ length ps → is_named r (get_or row i unmarked) ≡ true → In (get_or ps i []) (named r ps row)
 named_In r [] row i h s e = absurd (omega arith)
 named_In r (v ∷ ps) [] i h s e = absurd (omega arith)
 named_In r (v ∷ ps) (m ∷ row) zero h s e = subst (λ b. In v (cond b (v ∷ named r ps row) (named r ps row))) (sym e) (inl refl)
@@ -65,16 +65,16 @@ pub In_has : (r : Bool) (ps : List (List ℕ)) (row : List Mark) (w : List ℕ) 
 In_has r ps row w i = In_named r ps row w (shortlex_In (named r ps row) w i)
 
 -- the required words of a constraint, or the avoided ones
-abbrev words : Bool → Constraint → List (List ℕ)
+abbrev pub words : Bool → Constraint → List (List ℕ)
 words true c = c.require
 words false c = c.avoid
 
-words_of : (r : Bool) (ps : List (List ℕ)) (row : List Mark) → words r (constraint_of ps row) ≡ in_shortlex (named r ps row)
+pub words_of : (r : Bool) (ps : List (List ℕ)) (row : List Mark) → words r (constraint_of ps row) ≡ in_shortlex (named r ps row)
 words_of true ps row = refl
 words_of false ps row = refl
 
 -- a pattern that a required word contains is required too, and one that contains an avoided word is avoided too
-abbrev Stands : Bool → List ℕ → List ℕ → Type 0
+abbrev pub Stands : Bool → List ℕ → List ℕ → Type 0
 Stands true w v = Contains v w
 Stands false w v = Contains w v
 
@@ -82,24 +82,24 @@ pub relates_is : (r : Bool) (ps : List (List ℕ)) (n i : ℕ) → relates r ps 
 relates_is true ps n i = refl
 relates_is false ps n i = refl
 
-stands_same : (r : Bool) (w : List ℕ) → Stands r w w
+pub stands_same : (r : Bool) (w : List ℕ) → Stands r w w
 stands_same true w = contains_same w
 stands_same false w = contains_same w
 
-not_stands : (r : Bool) (w v : List ℕ) → stands r w v ≡ false → Stands r w v → ⊥
+pub not_stands : (r : Bool) (w v : List ℕ) → stands r w v ≡ false → Stands r w v → ⊥
 not_stands true w v e c = let k = contains_to v w c in cc
 not_stands false w v e c = let k = contains_to w v c in cc
 
-stands_not : (r : Bool) (w v : List ℕ) → (Stands r w v → ⊥) → stands r w v ≡ false
+pub stands_not : (r : Bool) (w v : List ℕ) → (Stands r w v → ⊥) → stands r w v ≡ false
 stands_not true w v n = elim (cases_Bool (contains v w)) [ inl e ↦ absurd (n (contains_from v w e)) | inr e ↦ e ]
 stands_not false w v n = elim (cases_Bool (contains w v)) [ inl e ↦ absurd (n (contains_from w v e)) | inr e ↦ e ]
 
 -- no word of the list but `w` stands for it
-record Top (r : Bool) (ws : List (List ℕ)) (w : List ℕ) : Type 0 where
+pub record Top (r : Bool) (ws : List (List ℕ)) (w : List ℕ) : Type 0 where
   member : In w ws
   alone : (v : List ℕ) → In v ws → Stands r w v → v ≡ w
 
-top_added : (r : Bool) (c : Constraint) (p w : List ℕ) → In w (words r (added r c p)) ↔ Top r (p ∷ words r c) w
+pub top_added : (r : Bool) (c : Constraint) (p w : List ℕ) → In w (words r (added r c p)) ↔ Top r (p ∷ words r c) w
 top_added true c p w = (
   λ i. let m = (maximal_is (p ∷ c.require) w).0 i in record { member = m.member; alone = m.greatest },
   λ t. (maximal_is (p ∷ c.require) w).1 (record { member = t.member; greatest = t.alone }),
@@ -109,20 +109,20 @@ top_added false c p w = (
   λ t. (minimal_is (p ∷ c.avoid) w).1 (record { member = t.member; least = t.alone }),
 )
 
-top_tidy : (r : Bool) (c : Constraint) (w v : List ℕ) → IsTidy c → In w (words r c) → In v (words r c) → Stands r w v → v ≡ w
+pub top_tidy : (r : Bool) (c : Constraint) (w v : List ℕ) → IsTidy c → In w (words r c) → In v (words r c) → Stands r w v → v ≡ w
 top_tidy true c w v t i j s = ((maximal_is c.require w).0 (subst (In w) (sym t.maximal) i)).greatest v j s
 top_tidy false c w v t i j s = ((minimal_is c.avoid w).0 (subst (In w) (sym t.minimal) i)).least v j s
 
 -- where nothing is known of the pattern, no word of the constraint stands for it, nor it for one of the other kind
-none_stands : (r : Bool) (c : Constraint) (p a : List ℕ) → answer c p ≡ Unknown → In a (words r c) → Stands r p a → ⊥
+pub none_stands : (r : Bool) (c : Constraint) (p a : List ℕ) → answer c p ≡ Unknown → In a (words r c) → Stands r p a → ⊥
 none_stands true c p a o i s = (open_is c p o).0 (inr (a, i, s))
 none_stands false c p a o i s = (open_is c p o).1 (a, i, s)
 
 -- the words of a constraint once one more is required, or avoided
-abbrev Joins : Bool → Bool → Constraint → List ℕ → List ℕ → Type 0
+abbrev pub Joins : Bool → Bool → Constraint → List ℕ → List ℕ → Type 0
 Joins r r' c p w = ((w ≡ p) × (r' ≡ r)) ⊎ (In w (words r' c) × (Stands r w p → ⊥))
 
-same_from : (r : Bool) (c : Constraint) (p w : List ℕ) → answer c p ≡ Unknown → In w (words r (added r c p)) → Joins r r c p w
+pub same_from : (r : Bool) (c : Constraint) (p w : List ℕ) → answer c p ≡ Unknown → In w (words r (added r c p)) → Joins r r c p w
 same_from r c p w o i = by m.member
   where
     m : Top r (p ∷ words r c) w
@@ -132,7 +132,7 @@ same_from r c p w o i = by m.member
     by (inl e) = inl (e, refl)
     by (inr j) = inr (j, λ s. none_stands r c p w o j (subst (λ v. Stands r v w) (sym (m.alone p (inl refl) s)) (stands_same r w)))
 
-same_to : (r : Bool) (c : Constraint) (p w : List ℕ) → IsTidy c → answer c p ≡ Unknown → Joins r r c p w → In w (words r (added r c p))
+pub same_to : (r : Bool) (c : Constraint) (p w : List ℕ) → IsTidy c → answer c p ≡ Unknown → Joins r r c p w → In w (words r (added r c p))
 same_to r c p w t o (inl e) = (top_added r c p w).1 (record { member = inl e.0; alone = λ v i s. by v i (subst (λ x. Stands r x v) e.0 s) })
   where
     by : (v : List ℕ) → In v (p ∷ words r c) → Stands r p v → v ≡ w
@@ -144,13 +144,13 @@ same_to r c p w t o (inr h) = (top_added r c p w).1 (record { member = inr h.0; 
     by v (inl q) s = absurd (h.1 (subst (Stands r w) q s))
     by v (inr j) s = top_tidy r c w v t h.0 j s
 
-joins_from : (r r' : Bool) (c : Constraint) (p w : List ℕ) → answer c p ≡ Unknown → In w (words r' (added r c p)) → Joins r r' c p w
+pub joins_from : (r r' : Bool) (c : Constraint) (p w : List ℕ) → answer c p ≡ Unknown → In w (words r' (added r c p)) → Joins r r' c p w
 joins_from true true c p w o i = same_from true c p w o i
 joins_from false false c p w o i = same_from false c p w o i
 joins_from true false c p w o i = inr (i, λ s. (open_is c p o).1 (w, i, s))
 joins_from false true c p w o i = inr (i, λ s. (open_is c p o).0 (inr (w, i, s)))
 
-joins_to : (r r' : Bool) (c : Constraint) (p w : List ℕ) → IsTidy c → answer c p ≡ Unknown → Joins r r' c p w → In w (words r' (added r c p))
+pub joins_to : (r r' : Bool) (c : Constraint) (p w : List ℕ) → IsTidy c → answer c p ≡ Unknown → Joins r r' c p w → In w (words r' (added r c p))
 joins_to true true c p w t o j = same_to true c p w t o j
 joins_to false false c p w t o j = same_to false c p w t o j
 joins_to true false c p w t o (inl e) = absurd (let q = e.1 in cc)
@@ -159,11 +159,11 @@ joins_to false true c p w t o (inl e) = absurd (let q = e.1 in cc)
 joins_to false true c p w t o (inr h) = h.0
 
 -- a row whose marks have the words of a tidy constraint stands for it
-words_ascend : (r : Bool) (c : Constraint) → IsTidy c → Ascending shortlex (words r c)
+pub words_ascend : (r : Bool) (c : Constraint) → IsTidy c → Ascending shortlex (words r c)
 words_ascend true c t = subst (Ascending shortlex) t.maximal (maximal_ascending c.require)
 words_ascend false c t = subst (Ascending shortlex) t.minimal (minimal_ascending c.avoid)
 
-stands_for : (ps : List (List ℕ)) (row : List Mark) (c : Constraint) → length row ≡ length ps → IsTidy c → ((r : Bool) (w : List ℕ) → Has r ps row w ↔ In w (words r c)) → constraint_of ps row ≡ c
+pub stands_for : (ps : List (List ℕ)) (row : List Mark) (c : Constraint) → length row ≡ length ps → IsTidy c → ((r : Bool) (w : List ℕ) → Has r ps row w ↔ In w (words r c)) → constraint_of ps row ≡ c
 stands_for ps row c s t h = ap₂ (λ (a q : List (List ℕ)). record { avoid = a; require = q }) (same false) (same true)
   where
     same : (r : Bool) → in_shortlex (named r ps row) ≡ words r c
@@ -172,7 +172,7 @@ stands_for ps row c s t h = ap₂ (λ (a q : List (List ℕ)). record { avoid = 
         (λ w i. (h r w).0 (In_has r ps row w i)) (λ w i. has_In r ps row w s ((h r w).1 i))
 
 -- a row that stands for a fit and tidy constraint, whose marks are what it tells
-row_of : (ps : List (List ℕ)) (row : List Mark) (c : Constraint) → constraint_of ps row ≡ c → length row ≡ length ps → IsFit c → IsTidy c
+pub row_of : (ps : List (List ℕ)) (row : List Mark) (c : Constraint) → constraint_of ps row ≡ c → length row ≡ length ps → IsFit c → IsTidy c
     → ((i : ℕ) → i < length ps → (get_or row i unmarked).known ≡ answer c (get_or ps i [])) → IsRow ps row
 row_of ps row c e l f t k =
     let g : IsFit (constraint_of ps row) = subst IsFit (sym e) f in
@@ -189,23 +189,23 @@ pub row_fit : (ps : List (List ℕ)) (row : List Mark) → IsRow ps row → IsFi
 row_fit ps row i = record { avoid = i.avoid; require = i.require; long = i.long }
 
 -- what the next mark tells
-next_tells : (r itself t : Bool) (m : Mark) → (next_mark r itself t m).known ≡ once r t m.known
+pub next_tells : (r itself t : Bool) (m : Mark) → (next_mark r itself t m).known ≡ once r t m.known
 next_tells r itself t m = grind arith
 
-both_true : (a b : Bool) → (a && b) ≡ true → (a ≡ true) × (b ≡ true)
+pub both_true : (a b : Bool) → (a && b) ≡ true → (a ≡ true) × (b ≡ true)
 both_true a b e = grind arith
 
-side_is : (r r' : Bool) → is_side r' (once r true Unknown) ≡ true → r' ≡ r
+pub side_is : (r r' : Bool) → is_side r' (once r true Unknown) ≡ true → r' ≡ r
 side_is r r' e = grind arith
 
 -- which marks are those of words of the constraint
-next_from : (r r' itself t : Bool) (m : Mark) → (itself ≡ true → m.known ≡ Unknown) → is_named r' (next_mark r itself t m) ≡ true → ((itself ≡ true) × (r' ≡ r)) ⊎ ((t ≡ false) × (is_named r' m ≡ true))
+pub next_from : (r r' itself t : Bool) (m : Mark) → (itself ≡ true → m.known ≡ Unknown) → is_named r' (next_mark r itself t m) ≡ true → ((itself ≡ true) × (r' ≡ r)) ⊎ ((t ≡ false) × (is_named r' m ≡ true))
 next_from r r' itself true m h e =
     let b = both_true itself (is_side r' (once r true m.known)) e in
     inl (b.0, side_is r r' (ap (λ k. is_side r' (once r true k)) (sym (h b.0)) ∙ b.1))
 next_from r r' itself false m h e = inr (refl, e)
 
-next_itself : (r : Bool) (m : Mark) → m.known ≡ Unknown → is_named r (next_mark r true true m) ≡ true
+pub next_itself : (r : Bool) (m : Mark) → m.known ≡ Unknown → is_named r (next_mark r true true m) ≡ true
 next_itself r m e = grind arith
 
 -- what is known once a pattern is settled
@@ -217,16 +217,16 @@ settled_known r ps n row next s i h = ap (λ (m : Mark). m.known) (s.marks i h) 
 module _ (r : Bool) (ps : List (List ℕ)) (n : ℕ) (row next : List Mark) (is : IsRow ps row) (h : n < length ps) (word : IsWord (get_or ps n [])) (unknown : (get_or row n unmarked).known ≡ Unknown)
     (s : IsSettled r ps n row next) where
   -- nothing is known of the pattern
-  answer_open : answer (constraint_of ps row) (get_or ps n []) ≡ Unknown
+  pub answer_open : answer (constraint_of ps row) (get_or ps n []) ≡ Unknown
   answer_open = sym (is.known n h) ∙ unknown
 
-  grown_tidy : IsTidy (added r (constraint_of ps row) (get_or ps n []))
+  pub grown_tidy : IsTidy (added r (constraint_of ps row) (get_or ps n []))
   grown_tidy = added_tidy r (constraint_of ps row) (get_or ps n []) answer_open is.tidy
 
-  size : length next ≡ length ps
+  pub size : length next ≡ length ps
   size = s.size ∙ is.size
 
-  has_from : (r' : Bool) (w : List ℕ) → Has r' ps next w → Joins r r' (constraint_of ps row) (get_or ps n []) w
+  pub has_from : (r' : Bool) (w : List ℕ) → Has r' ps next w → Joins r r' (constraint_of ps row) (get_or ps n []) w
   has_from r' w k = elim (next_from r r' (k.place == n) (relates r ps n k.place) (get_or row k.place unmarked) (λ e. ap (λ j. (get_or row j unmarked).known) (eqb-true k.place n e) ∙ unknown) (ap (is_named r') (sym (s.marks k.place k.there)) ∙ k.mark)) [
     | inl e ↦ inl (k.word ∙ ap (λ j. get_or ps j []) (eqb-true k.place n e.0), e.1)
     | inr e ↦ inr (
@@ -235,7 +235,7 @@ module _ (r : Bool) (ps : List (List ℕ)) (n : ℕ) (row next : List Mark) (is 
     )
   ]
 
-  has_to : (r' : Bool) (w : List ℕ) → Joins r r' (constraint_of ps row) (get_or ps n []) w → Has r' ps next w
+  pub has_to : (r' : Bool) (w : List ℕ) → Joins r r' (constraint_of ps row) (get_or ps n []) w → Has r' ps next w
   has_to r' w (inl e) = record {
     place = n;
     there = h;

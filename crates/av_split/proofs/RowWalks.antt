@@ -42,7 +42,7 @@ changed_next next old row new i n m c h t e q = record {
     at j = ap (λ (l : List Mark). get_or l j unmarked) e
 
 -- some of ascending words ascend
-some_ascend : {A : Type 0} (f : A → List ℕ) (t : A → Bool) (xs : List A) → Ascending shortlex (map f xs) → Ascending shortlex (map f (filter t xs))
+pub some_ascend : {A : Type 0} (f : A → List ℕ) (t : A → Bool) (xs : List A) → Ascending shortlex (map f xs) → Ascending shortlex (map f (filter t xs))
 some_ascend f t [] a = tt
 some_ascend {A = A} f t (x ∷ xs) a = by (t x) (some_ascend f t xs a.1) (λ y i. a.0 y (let r = In_map f (filter t xs) y i in subst (λ z. In z (map f xs)) (sym r.2) (map_In f xs r.0 (In_filter t xs r.0 r.1).0)))
   where
@@ -51,7 +51,7 @@ some_ascend {A = A} f t (x ∷ xs) a = by (t x) (some_ascend f t xs a.1) (λ y i
     by false r h = r
 
 -- the words of a constraint, by the order of the patterns
-named_ordered : (ps : List (List ℕ)) (order : List ℕ) (r : Bool) (row : List Mark) → IsOrder ps order → length row ≡ length ps
+pub named_ordered : (ps : List (List ℕ)) (order : List ℕ) (r : Bool) (row : List Mark) → IsOrder ps order → length row ≡ length ps
     → map (λ i. get_or ps i []) (filter (λ i. is_named r (get_or row i unmarked)) order) ≡ in_shortlex (named r ps row)
 named_ordered ps order r row o s =
     ascending_same shortlex shortlex_total (map (λ i. get_or ps i []) (filter (λ i. is_named r (get_or row i unmarked)) order)) (in_shortlex (named r ps row))
@@ -67,7 +67,7 @@ named_ordered ps order r row o s =
     (filter_In (λ i. is_named r (get_or row i unmarked)) order h.place (o.all h.place h.there) h.mark)))
 
 -- the same, one pattern after another
-map_filter : {A B : Type 0} (f : A → B) (t : A → Bool) (xs : List A) → flat_map (λ x. cond (t x) (f x ∷ []) []) xs ≡ map f (filter t xs)
+pub map_filter : {A B : Type 0} (f : A → B) (t : A → Bool) (xs : List A) → flat_map (λ x. cond (t x) (f x ∷ []) []) xs ≡ map f (filter t xs)
 map_filter f t [] = refl
 map_filter f t (x ∷ xs) = by (t x) (map_filter f t xs)
   where
@@ -90,7 +90,7 @@ flat_next f xs i n x d old new h e q o more =
     ∙ ap (λ m. flat_map f (take m xs)) (sym (add-one i) ∙ sym q)
 
 -- a set in shortlex order takes a word as the list does
-insert_same : (w : List ℕ) (ws : List (List ℕ)) → insert_key shortlex ws w ≡ insert_word w ws
+pub insert_same : (w : List ℕ) (ws : List (List ℕ)) → insert_key shortlex ws w ≡ insert_word w ws
 insert_same w [] = refl
 insert_same w (v ∷ ws) = by (shortlex w v) (insert_same w ws)
   where
@@ -123,17 +123,17 @@ pub numbered : (ps : List (List ℕ)) (w : List ℕ) (b : Bool) → In w ps → 
 numbered ps w b i e f = let t = any_to (same w) ps w i (same_refl w) in let q : true ≡ false = sym t ∙ sym e ∙ f in cc
 
 -- what holds of all by recursion holds of each
-each_of : {A : Type 0} (P : A → Type 0) (xs : List A) (x : A) → AllByRecursion P xs → In x xs → P x
+pub each_of : {A : Type 0} (P : A → Type 0) (xs : List A) (x : A) → AllByRecursion P xs → In x xs → P x
 each_of P [] x a i = absurd i
 each_of P (y ∷ xs) x a (inl e) = subst P (sym e) a.0
 each_of P (y ∷ xs) x a (inr i) = each_of P xs x a.1 i
 
 -- words that the test tells apart
-never_same : (u v : List ℕ) → same u v ≡ false → u ≡ v → ⊥
+pub never_same : (u v : List ℕ) → same u v ≡ false → u ≡ v → ⊥
 never_same u v f q = let t : same u v ≡ true = subst (λ z. same u z ≡ true) q (same_refl u) in let r : true ≡ false = sym t ∙ f in cc
 
 -- different words have different numbers
-distinct_same : (ps : List (List ℕ)) (i j : ℕ) → IsDistinct same ps → i < length ps → j < length ps → get_or ps i [] ≡ get_or ps j [] → i ≡ j
+pub distinct_same : (ps : List (List ℕ)) (i j : ℕ) → IsDistinct same ps → i < length ps → j < length ps → get_or ps i [] ≡ get_or ps j [] → i ≡ j
 unfolding IsDistinct
 distinct_same [] i j d h k e = absurd (omega arith)
 distinct_same (w ∷ ps) zero zero d h k e = refl

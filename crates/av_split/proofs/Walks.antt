@@ -11,42 +11,32 @@ use Rattle.std.proofs.Math.ListN.{drop_of_length-le}
 use Rattle.std.proofs.lemmas.Bool.{cases_lt}
 use Rattle.av_split.specs.Split.{Demand, both, either, turned, all_of, some_of, at_open, first_open}
 use Rattle.av_split.proofs.GenericSplit.{both_inside, both_out, either_in}
-use Rattle.av_split.specs.Cells.{IsStep, IsFirst, or_cell, step_or, turned_step}
+use Rattle.av_split.specs.Cells.{IsStep, IsFirst, known_so, or_first, or_else, step_or, turned_step}
 
--- what the items gone through tell together where none fails, by the first open cell
-abbrev pub known_so : Option Cell → Known
-known_so None = Inside
-known_so (Some cell) = Open
-
--- the same where one that holds suffices and none did
-abbrev pub some_so : Option Cell → Known
+-- what the items gone through tell together where one that holds suffices and none did, by the first open cell or query
+abbrev pub some_so : {X : Type 0} → Option X → Known
 some_so None = Outside
-some_so (Some cell) = Open
+some_so (Some x) = Open
 
--- the first open cell, or else that of the rest
-abbrev pub or_else : Option Cell → Option Cell → Option Cell
-or_else None o = o
-or_else (Some cell) o = Some cell
-
--- the items before the rest told no more than the first open cell
-pub record AllSo {A : Type 0} (f : A → Known) (g : A → Option Cell) (found : Option Cell) (xs rest : List A) : Type 0 where
+-- the items before the rest told no more than the first open cell or query
+pub record AllSo {A X : Type 0} (f : A → Known) (g : A → Option X) (found : Option X) (xs rest : List A) : Type 0 where
   pub known : all_of f xs ≡ both (known_so found) (all_of f rest)
   pub first : first_open f g xs ≡ or_else found (first_open f g rest)
 
 -- the same where one that holds suffices
-pub record SomeSo {A : Type 0} (f : A → Known) (g : A → Option Cell) (found : Option Cell) (xs rest : List A) : Type 0 where
+pub record SomeSo {A X : Type 0} (f : A → Known) (g : A → Option X) (found : Option X) (xs rest : List A) : Type 0 where
   pub known : some_of f xs ≡ either (some_so found) (some_of f rest)
   pub first : first_open f g xs ≡ or_else found (first_open f g rest)
 
 -- at the start nothing was found
-pub all_start : {A : Type 0} (f : A → Known) (g : A → Option Cell) (xs : List A) → AllSo f g None xs xs
+pub all_start : {A X : Type 0} (f : A → Known) (g : A → Option X) (xs : List A) → AllSo f g None xs xs
 all_start f g xs = record { known = refl; first = refl }
 
-pub some_start : {A : Type 0} (f : A → Known) (g : A → Option Cell) (xs : List A) → SomeSo f g None xs xs
+pub some_start : {A X : Type 0} (f : A → Known) (g : A → Option X) (xs : List A) → SomeSo f g None xs xs
 some_start f g xs = record { known = refl; first = refl }
 
 -- an item that holds is passed over
-pub all_holds : {A : Type 0} (f : A → Known) (g : A → Option Cell) (found : Option Cell) (xs rest : List A) (x : A) → f x ≡ Inside
+pub all_holds : {A X : Type 0} (f : A → Known) (g : A → Option X) (found : Option X) (xs rest : List A) (x : A) → f x ≡ Inside
     → AllSo f g found xs (x ∷ rest) → AllSo f g found xs rest
 all_holds f g found xs rest x e s = record {
   known = s.known ∙ ap (λ k. both (known_so found) (both k (all_of f rest))) e;
@@ -54,22 +44,22 @@ all_holds f g found xs rest x e s = record {
 }
 
 -- an item that fails decides
-pub all_fails : {A : Type 0} (f : A → Known) (g : A → Option Cell) (found : Option Cell) (xs rest : List A) (x : A) → f x ≡ Outside
+pub all_fails : {A X : Type 0} (f : A → Known) (g : A → Option X) (found : Option X) (xs rest : List A) (x : A) → f x ≡ Outside
     → AllSo f g found xs (x ∷ rest) → all_of f xs ≡ Outside
 all_fails f g found xs rest x e s = s.known ∙ ap (λ k. both (known_so found) (both k (all_of f rest))) e ∙ both_out (known_so found)
 
 -- the first open one is kept
-pub all_asks : {A : Type 0} (f : A → Known) (g : A → Option Cell) (found : Option Cell) (xs rest : List A) (x : A) (cell : Cell) → f x ≡ Open → g x ≡ Some cell
-    → AllSo f g found xs (x ∷ rest) → AllSo f g (or_cell found cell) xs rest
-all_asks f g found xs rest x cell e q s = record {
+pub all_asks : {A X : Type 0} (f : A → Known) (g : A → Option X) (found : Option X) (xs rest : List A) (x : A) (c : X) → f x ≡ Open → g x ≡ Some c
+    → AllSo f g found xs (x ∷ rest) → AllSo f g (or_first found c) xs rest
+all_asks {X = X} f g found xs rest x c e q s = record {
   known = s.known ∙ ap (λ k. both (known_so found) (both k (all_of f rest))) e ∙ by found (all_of f rest);
   first = s.first ∙ ap₂ (λ k o. or_else found (at_open k o (first_open f g rest))) e q ∙ or found;
 }
   where
-    by : (found : Option Cell) (k : Known) → both (known_so found) (both Open k) ≡ both (known_so (or_cell found cell)) k
+    by : (found : Option X) (k : Known) → both (known_so found) (both Open k) ≡ both (known_so (or_first found c)) k
     by found k = grind arith
 
-    or : (found : Option Cell) → or_else found (Some cell) ≡ or_else (or_cell found cell) (first_open f g rest)
+    or : (found : Option X) → or_else found (Some c) ≡ or_else (or_first found c) (first_open f g rest)
     or found = grind arith
 
 -- at the end
@@ -79,7 +69,7 @@ all_end f g None xs s = s.known
 all_end f g (Some cell) xs s = (s.known, s.first)
 
 -- an item that fails is passed over
-pub some_fails : {A : Type 0} (f : A → Known) (g : A → Option Cell) (found : Option Cell) (xs rest : List A) (x : A) → f x ≡ Outside
+pub some_fails : {A X : Type 0} (f : A → Known) (g : A → Option X) (found : Option X) (xs rest : List A) (x : A) → f x ≡ Outside
     → SomeSo f g found xs (x ∷ rest) → SomeSo f g found xs rest
 some_fails f g found xs rest x e s = record {
   known = s.known ∙ ap (λ k. either (some_so found) (either k (some_of f rest))) e;
@@ -87,22 +77,22 @@ some_fails f g found xs rest x e s = record {
 }
 
 -- an item that holds decides
-pub some_holds : {A : Type 0} (f : A → Known) (g : A → Option Cell) (found : Option Cell) (xs rest : List A) (x : A) → f x ≡ Inside
+pub some_holds : {A X : Type 0} (f : A → Known) (g : A → Option X) (found : Option X) (xs rest : List A) (x : A) → f x ≡ Inside
     → SomeSo f g found xs (x ∷ rest) → some_of f xs ≡ Inside
 some_holds f g found xs rest x e s = s.known ∙ ap (λ k. either (some_so found) (either k (some_of f rest))) e ∙ either_in (some_so found)
 
 -- the first open one is kept
-pub some_asks : {A : Type 0} (f : A → Known) (g : A → Option Cell) (found : Option Cell) (xs rest : List A) (x : A) (cell : Cell) → f x ≡ Open → g x ≡ Some cell
-    → SomeSo f g found xs (x ∷ rest) → SomeSo f g (or_cell found cell) xs rest
-some_asks f g found xs rest x cell e q s = record {
+pub some_asks : {A X : Type 0} (f : A → Known) (g : A → Option X) (found : Option X) (xs rest : List A) (x : A) (c : X) → f x ≡ Open → g x ≡ Some c
+    → SomeSo f g found xs (x ∷ rest) → SomeSo f g (or_first found c) xs rest
+some_asks {X = X} f g found xs rest x c e q s = record {
   known = s.known ∙ ap (λ k. either (some_so found) (either k (some_of f rest))) e ∙ by found (some_of f rest);
   first = s.first ∙ ap₂ (λ k o. or_else found (at_open k o (first_open f g rest))) e q ∙ or found;
 }
   where
-    by : (found : Option Cell) (k : Known) → either (some_so found) (either Open k) ≡ either (some_so (or_cell found cell)) k
+    by : (found : Option X) (k : Known) → either (some_so found) (either Open k) ≡ either (some_so (or_first found c)) k
     by found k = grind arith
 
-    or : (found : Option Cell) → or_else found (Some cell) ≡ or_else (or_cell found cell) (first_open f g rest)
+    or : (found : Option X) → or_else found (Some c) ≡ or_else (or_first found c) (first_open f g rest)
     or found = grind arith
 
 -- at the end
@@ -153,7 +143,7 @@ all_more {A = A} f xs i n x d h e q a k = ap (λ m. all_of f (take m xs)) (q ∙
         ap (λ l. both l (all_of f (take (suc i) xs))) b.0 ∙ by xs i (omega arith) e b.1
 
 -- an item that is not broken is passed over, and one that is breaks all
-both_broken : (x y : Known) → (x ≡ Outside → ⊥) → (both x y ≡ Outside) ↔ (y ≡ Outside)
+pub both_broken : (x y : Known) → (x ≡ Outside → ⊥) → (both x y ≡ Outside) ↔ (y ≡ Outside)
 both_broken x y n = (λ e. grind arith, λ e. grind arith)
 
 abbrev pub Breaks : {A : Type 0} → (A → Known) → List A → List A → Type 0
@@ -181,13 +171,13 @@ first_at s f g xs i x h e k n = subst (IsFirst s f g) (sym (rest_at xs i (i + 1)
     by (Asks cell) k n = k
 
 -- what follows the first item of the rest
-drop_tail : {A : Type 0} (xs : List A) (n : ℕ) (y : A) (ys : List A) → drop n xs ≡ y ∷ ys → drop (suc n) xs ≡ ys
+pub drop_tail : {A : Type 0} (xs : List A) (n : ℕ) (y : A) (ys : List A) → drop n xs ≡ y ∷ ys → drop (suc n) xs ≡ ys
 drop_tail xs zero y ys e = ap (drop 1) e
 drop_tail [] (suc n) y ys e = absurd (cc)
 drop_tail (x ∷ xs) (suc n) y ys e = drop_tail xs n y ys e
 
 -- the step of all, by that of the first item that doesn't hold
-both_open_whole : (k : Known) → (k ≡ Outside → ⊥) → both Open k ≡ Open
+pub both_open_whole : (k : Known) → (k ≡ Outside → ⊥) → both Open k ≡ Open
 both_open_whole k n = grind arith
 
 module _ (f : Demand Cell → Known) (g : Demand Cell → Option Cell) (xs : List (Demand Cell)) (n : ℕ) (done : all_of f (take n xs) ≡ Inside) where
@@ -204,7 +194,7 @@ module _ (f : Demand Cell → Known) (g : Demand Cell → Option Cell) (xs : Lis
   pub first_within : (cell : Cell) → IsFirst (Asks cell) f g (drop n xs) → n < length xs
   first_within cell h = elim (cases_lt n (length xs)) [ inl l ↦ l | inr l ↦ absurd (subst (IsFirst (Asks cell) f g) (drop_of_length-le xs l) h) ]
 
-  later : (ys : List (Demand Cell)) (y : Demand Cell) → drop n xs ≡ y ∷ ys → drop (n + 1) xs ≡ ys
+  pub later : (ys : List (Demand Cell)) (y : Demand Cell) → drop n xs ≡ y ∷ ys → drop (n + 1) xs ≡ ys
   later ys y e = ap (λ m. drop m xs) (add-one n) ∙ drop_tail xs n y ys e
 
   pub later_fails : (cell : Cell) → IsFirst (Asks cell) f g (drop n xs) → all_of f (drop (n + 1) xs) ≡ Outside → all_of f xs ≡ Outside

@@ -82,7 +82,7 @@ changed_child P k b i j c f h g o = elim (cases_eq j i) [
 ]
 
 -- a box with a new constraint for one child
-changed_fine : (k : ℕ) (b : Box) (i : ℕ) (c : Constraint) → Fine k b → i < k → IsFit c → IsTidy c → Fine k (set b i c)
+pub changed_fine : (k : ℕ) (b : Box) (i : ℕ) (c : Constraint) → Fine k b → i < k → IsFit c → IsTidy c → Fine k (set b i c)
 changed_fine k b i c f h g t = record {
   count = length-set b i c ∙ f.count;
   fit = λ j l. changed_child IsFit k b i j c f h (λ e. g) (f.fit j l);
@@ -122,7 +122,7 @@ abbrev pub Holds : List (List ℕ) → Query → Type 0
 Holds αs q = Contains (block αs q.child) q.word
 
 -- what lies in the changed box
-changed_lies : (k : ℕ) (αs : List (List ℕ)) (b : Box) (i : ℕ) (c : Constraint) (X : Type 0) → Fine k b → i < k
+pub changed_lies : (k : ℕ) (αs : List (List ℕ)) (b : Box) (i : ℕ) (c : Constraint) (X : Type 0) → Fine k b → i < k
     → Meets c.avoid c.require (block αs i) ↔ (Meets (child_of b i).avoid (child_of b i).require (block αs i) × X) → Lies k αs (set b i c) ↔ (Lies k αs b × X)
 changed_lies k αs b i c X f h g = (
   λ l.
@@ -138,7 +138,7 @@ changed_lies k αs b i c X f h g = (
 )
 
 -- what lies in the region of a constraint with one more word
-added_meets : (r : Bool) (σ : List ℕ) (c : Constraint) (p : List ℕ) → IsFit c → IsWord p → Meets (added r c p).avoid (added r c p).require σ ↔ (Meets c.avoid c.require σ × MetIf r (Contains σ p))
+pub added_meets : (r : Bool) (σ : List ℕ) (c : Constraint) (p : List ℕ) → IsFit c → IsWord p → Meets (added r c p).avoid (added r c p).require σ ↔ (Meets c.avoid c.require σ × MetIf r (Contains σ p))
 added_meets true σ c p f g = meets_require σ c p f.require g
 added_meets false σ c p f g = meets_avoid σ c p f.avoid g
 
@@ -154,13 +154,13 @@ word_meant k αs filled = record {
 }
 
 -- an element of one of the lists that are joined
-joined_In : {A : Type 0} (n : ℕ) (F : ℕ → List A) (i : ℕ) (x : A) → i < n → In x (F i) → In x (joined F n)
+pub joined_In : {A : Type 0} (n : ℕ) (F : ℕ → List A) (i : ℕ) (x : A) → i < n → In x (F i) → In x (joined F n)
 joined_In zero F i x h k = absurd (omega arith)
 joined_In (suc n) F zero x h k = append_left (F 0) (joined (λ j. F (suc j)) n) x k
 joined_In (suc n) F (suc i) x h k = append_right (F 0) (joined (λ j. F (suc j)) n) x (joined_In n (λ j. F (suc j)) i x (omega arith) k)
 
 -- a fibre that is not empty is asked for
-ask_In : (i : ℕ) (l : List ℕ) → (l ≡ [] → ⊥) → In (record { child = i; word = pattern_of l }) (ask i l)
+pub ask_In : (i : ℕ) (l : List ℕ) → (l ≡ [] → ⊥) → In (record { child = i; word = pattern_of l }) (ask i l)
 ask_In i [] h = absurd (h refl)
 ask_In i (x ∷ l) h = inl refl
 
@@ -171,7 +171,7 @@ In_ask i (x ∷ l) q (inl e) = (e, λ k. cc)
 In_ask i (x ∷ l) q (inr h) = absurd h
 
 -- the pattern of a fibre that is not empty is a word
-fibre_word : (γ e : List ℕ) (i : ℕ) → IsWord γ → (fibre γ e i ≡ [] → ⊥) → IsWord (pattern_of (fibre γ e i))
+pub fibre_word : (γ e : List ℕ) (i : ℕ) → IsWord γ → (fibre γ e i ≡ [] → ⊥) → IsWord (pattern_of (fibre γ e i))
 fibre_word γ e i w n = ((pattern_law).pattern (fibre γ e i) (some (fibre γ e i) n) (fibre_once γ e i (once_from_apart γ w.numbers.apart))).word
   where
     some : (l : List ℕ) → (l ≡ [] → ⊥) → 1 ≤ length l
@@ -179,14 +179,14 @@ fibre_word γ e i w n = ((pattern_law).pattern (fibre γ e i) (some (fibre γ e 
     some (x ∷ l) n = omega arith
 
 -- the queries of an embedding are of the children
-queries_apt : (π γ e : List ℕ) (q : Query) → IsWord γ → In q (queries π γ e) → Apt (length π) q
+pub queries_apt : (π γ e : List ℕ) (q : Query) → IsWord γ → In q (queries π γ e) → Apt (length π) q
 queries_apt π γ e q w i =
     let r = In_joined (λ j. ask j (fibre γ e (suc j))) (length π) q i in
     let a = In_ask r.0 (fibre γ e (suc r.0)) q r.2 in
     subst (Apt (length π)) (sym a.0) (record { child = r.1; word = fibre_word γ e (suc r.0) w a.1 })
 
 -- the queries of some embedding hold exactly where the inflation contains the word
-some_contains : (π γ : List ℕ) (αs : List (List ℕ)) → IsWord π → AreBlocks π αs → SomeIn (Each (Holds αs)) (map (queries π γ) (embeddings π γ)) ↔ Contains (inflate π αs) γ
+pub some_contains : (π γ : List ℕ) (αs : List (List ℕ)) → IsWord π → AreBlocks π αs → SomeIn (Each (Holds αs)) (map (queries π γ) (embeddings π γ)) ↔ Contains (inflate π αs) γ
 some_contains π γ αs w b = (
   λ s.
       let m = In_map (queries π γ) (embeddings π γ) s.0 s.1 in
@@ -232,7 +232,7 @@ demands_apt π A R ga gr = demands_each (Apt (length π)) π A R (λ γ e o q i.
     word γ (inr j) = gr γ j
 
 -- the demands are met where the inflation meets the name
-met_meets : (π : List ℕ) (A R : List (List ℕ)) (αs : List (List ℕ)) → IsWord π → AreBlocks π αs → Each (Met (Holds αs)) (demands π A R) ↔ Meets A R (inflate π αs)
+pub met_meets : (π : List ℕ) (A R : List (List ℕ)) (αs : List (List ℕ)) → IsWord π → AreBlocks π αs → Each (Met (Holds αs)) (demands π A R) ↔ Meets A R (inflate π αs)
 met_meets π A R αs w b = (
   λ m. record {
     avoids = λ a i c. m (demand π false a) (append_left (map (demand π false) A) (map (demand π true) R) (demand π false a) (map_In (demand π false) A a i)) ((some_contains π a αs w b).1 c);
@@ -245,7 +245,7 @@ met_meets π A R αs w b = (
 )
 
 -- all blocks lie in the first box
-free_lies : (k : ℕ) (αs : List (List ℕ)) → Lies k αs (replicate k free)
+pub free_lies : (k : ℕ) (αs : List (List ℕ)) → Lies k αs (replicate k free)
 free_lies k αs i h = subst (λ (d : Constraint). Meets d.avoid d.require (block αs i)) (sym (get_or-replicate k i free free h)) (free_meets (block αs i))
 
 -- the free constraint is fit
@@ -269,7 +269,7 @@ pub box_fine : (π : List ℕ) (A R : List (List ℕ)) (x : Box) → Each IsWord
 box_fine π A R x ga gr i = (boxes_done word_rules (Fine (length π)) (Apt (length π)) (word_law (length π)) (demands π A R) (demands_apt π A R ga gr) (replicate (length π) free) (start_fine (length π)) x i).1
 
 -- the map that sends all places to one child
-constant : (π γ : List ℕ) (i : ℕ) → i < length π → IsEmbedding π γ (replicate (length γ) (suc i))
+pub constant : (π γ : List ℕ) (i : ℕ) → i < length π → IsEmbedding π γ (replicate (length γ) (suc i))
 constant π γ i h =
     let n = length-replicate (length γ) (suc i) in
     let is : (s : ℕ) → s < length (replicate (length γ) (suc i)) → at (replicate (length γ) (suc i)) s ≡ suc i = λ s k. get_or-replicate (length γ) s (suc i) 0 (omega arith) in
@@ -281,12 +281,12 @@ constant π γ i h =
     }
 
 -- its fibre is the whole
-constant_fibre : (γ : List ℕ) (i : ℕ) → fibre γ (replicate (length γ) i) i ≡ γ
+pub constant_fibre : (γ : List ℕ) (i : ℕ) → fibre γ (replicate (length γ) i) i ≡ γ
 constant_fibre [] i = refl
 constant_fibre (x ∷ γ) i = fibre_hit x γ i (replicate (length γ) i) i refl ∙ ap (λ l. x ∷ l) (constant_fibre γ i)
 
 -- a list that is not empty has an element
-nonempty_has : (l : List ℕ) → (l ≡ [] → ⊥) → (x : ℕ) × In x l
+pub nonempty_has : (l : List ℕ) → (l ≡ [] → ⊥) → (x : ℕ) × In x l
 nonempty_has [] h = absurd (h refl)
 nonempty_has (x ∷ l) h = (x, inl refl)
 
@@ -316,7 +316,7 @@ child_avoids π A R γ x i ga gr inA hx hi =
     (o.0, subst (λ n. In o.0 (child_of x n).avoid) child o.1, subst (λ v. Contains v o.0) text o.2)
 
 -- the boxes of a root and a name
-split_is : (π : List ℕ) (A R : List (List ℕ)) → IsWord π → Each IsWord A → Each IsWord R → Splits π A R
+pub split_is : (π : List ℕ) (A R : List (List ℕ)) → IsWord π → Each IsWord A → Each IsWord R → Splits π A R
 split_is π A R w ga gr = record {
   exact = λ αs b.
       let cover = boxes_cover word_rules (Fine k) (Apt k) (word_law k) ds apt (Lies k αs) (Holds αs) (word_meant k αs b.filled) start fine (free_lies k αs) in

@@ -93,10 +93,20 @@ IsFirst (Asks cell) f g (d ∷ ds) = (f d ≡ Open) × (g d ≡ Some cell)
 abbrev pub AreSafe : Option Bool → (Demand Cell → Known) → List (Demand Cell) → Type 0
 AreSafe last f ds = (d : Demand Cell) → In d ds → last ≡ Some d.required → f d ≡ Outside → ⊥
 
--- the first of two cells, where there is one
-abbrev pub or_cell : Option Cell → Cell → Option Cell
-or_cell None cell = Some cell
-or_cell (Some first) cell = Some first
+-- the first of two, where there is one
+abbrev pub or_first : {X : Type 0} → Option X → X → Option X
+or_first None x = Some x
+or_first (Some first) x = Some first
+
+-- the same of two of which there may be none
+abbrev pub or_else : {X : Type 0} → Option X → Option X → Option X
+or_else None o = o
+or_else (Some x) o = Some x
+
+-- what items that were gone through tell together where none fails, by the first open cell or query
+abbrev pub known_so : {X : Type 0} → Option X → Known
+known_so None = Inside
+known_so (Some x) = Open
 
 -- the step to the first open cell, or else another
 abbrev pub step_or : Option Cell → Step → Step

@@ -1,20 +1,31 @@
 //! The split of a root into boxes, each with a constraint for each child of the root.
 #![tactic(auto)]
 
-mod asked;
+mod advising;
+/// The demands of a name at a root, with the numbers of their patterns.
+pub mod asked;
 mod boxes;
-mod cells;
+/// Queries by number: cells of a table of children by patterns.
+pub mod cells;
 #[cfg(test)]
 mod filter_tests;
+#[cfg(test)]
+mod hand_tests;
 pub mod laws;
-mod path;
-mod patterns;
-mod rows;
+/// The path to a box, which is cut in place and taken back.
+pub mod path;
+/// The patterns of a root and a name, numbered.
+pub mod patterns;
+/// What is known of each pattern at a child.
+pub mod rows;
 mod splitting;
-mod steps;
-mod table;
+/// What is known of the demands in a box, and what to ask next.
+pub mod steps;
+/// The patterns, which of them contain which, and what a settled one tells of the others.
+pub mod table;
 #[cfg(test)]
 mod tests;
 
+pub use advising::{Advice, advise};
 pub use boxes::{BoxList, SplitBox};
 pub use splitting::{Boxes, split};

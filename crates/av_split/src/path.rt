@@ -8,30 +8,30 @@ use crate::table::Table;
 use av_perm::Memory;
 use std::mem;
 
-// A box that was cut by the query of a cell, and which of its parts is on the path.
+/// A box that was cut by the query of a cell, and which of its parts is on the path.
 #[derive(Drop)]
 pub struct Turn {
     pub cell: Cell,
-    // The row of the cell's child before the cut.
+    /// The row of the cell's child before the cut.
     pub row: Row,
-    // So many demands are done in the box.
+    /// So many demands are done in the box.
     pub from: usize,
-    // Whether the part in which the pattern of the cell is required is on the path; the other one comes before it.
+    /// Whether the part in which the pattern of the cell is required is on the path; the other one comes before it.
     pub required: bool,
 }
 
-// A box, by the rows of its children, and the cuts that lead to it, with the last one last.
+/// A box, by the rows of its children, and the cuts that lead to it, with the last one last.
 #[derive(Drop)]
 pub struct Path {
     pub rows: Vec<Row>,
-    // So many demands are done in the box.
+    /// So many demands are done in the box.
     pub from: usize,
-    // Whether a word was required or avoided at the last cut: no demand to contain a word, or to avoid one, is broken.
+    /// Whether a word was required or avoided at the last cut: no demand to contain a word, or to avoid one, is broken.
     pub last: Option<bool>,
     pub turns: Vec<Turn>,
 }
 
-// The path to a part of the box that it leads to.
+/// The path to a part of the box that it leads to.
 pub fn enter(
     table: &Table,
     required: bool,
@@ -62,7 +62,7 @@ pub fn enter(
     })
 }
 
-// The path to the next part that is left, of the last box with one, if there is one.
+/// The path to the next part that is left, of the last box with one, if there is one.
 pub fn back(table: &Table, path: Path) -> Result<Option<Path>, Memory>
     requires { AreTurns table.now path.turns.items path.rows.items }
     ensures { IfOk result (λ next. GoesBack table.now (reverse path.turns.items) path.rows.items next) }

@@ -8,7 +8,7 @@ use av_perm::Memory;
 use std::alloc::Global;
 use std::marker::Model;
 
-// What is known of a pattern at a child, and whether it is a word of the child's constraint.
+/// What is known of a pattern at a child, and whether it is a word of the child's constraint.
 #[derive(Clone, Copy, Debug)]
 pub struct Mark {
     pub known: Known,
@@ -26,7 +26,7 @@ fn once(required: bool, known: Known) -> Known
     }
 }
 
-// The mark once a word is settled, by whether the pattern is that word, and whether the word tells of it.
+/// The mark once a word is settled, by whether the pattern is that word, and whether the word tells of it.
 pub fn next_mark(required: bool, itself: bool, related: bool, mark: Mark) -> Mark
     ensures { result ≡ next_mark required itself related mark }
 {
@@ -51,14 +51,14 @@ fn is_side(required: bool, known: Known) -> bool
     }
 }
 
-// Whether the mark is that of a required word of the constraint, or of an avoided one.
+/// Whether the mark is that of a required word of the constraint, or of an avoided one.
 pub fn is_named(required: bool, mark: Mark) -> bool
     ensures { result ≡ is_named required mark }
 {
     mark.named && is_side(required, mark.known)
 }
 
-// A mark for each pattern.
+/// A mark for each pattern.
 #[derive(Drop)]
 pub struct Row {
     marks: Vec<Mark>,
@@ -74,7 +74,7 @@ impl Model for Row {
 }
 
 impl Row {
-    // The empty row.
+    /// The empty row.
     pub fn empty(alloc: Global) -> Row
         ensures { result ≡ [] }
     {
@@ -83,7 +83,7 @@ impl Row {
         }
     }
 
-    // The mark of a pattern, by its number.
+    /// The mark of a pattern, by its number.
     pub fn get(&self, i: usize) -> Mark
         requires { i < length self.now }
         ensures { result ≡ get_or self.now i unmarked }
@@ -91,7 +91,7 @@ impl Row {
         self.marks[i]
     }
 
-    // Appends the mark of the next pattern.
+    /// Appends the mark of the next pattern.
     pub fn push(&mut self, mark: Mark) -> Result<(), Memory>
         ensures ok { OnOk result (self.new ≡ self.old ++ mark ∷ []) }
         ensures err { OnErr result (self.new ≡ self.old) }
@@ -102,7 +102,7 @@ impl Row {
         }
     }
 
-    // Changes the mark of a pattern.
+    /// Changes the mark of a pattern.
     pub fn set(&mut self, i: usize, mark: Mark)
         requires { i < length self.old }
         ensures { self.new ≡ set self.old i mark }
@@ -110,7 +110,7 @@ impl Row {
         self.marks[i] = mark;
     }
 
-    // An equal row.
+    /// An equal row.
     pub fn copy(&self) -> Result<Row, Memory>
         ensures { IfOk result (λ copy. copy ≡ self.now) }
     {

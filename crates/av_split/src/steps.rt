@@ -2,7 +2,7 @@
 ghost use Rattle.std.specs.Prelude.{◌≡◌, ◌<◌, ◌≤◌, ◌+◌, Some, Option, true, false, length, take, drop};
 ghost use Rattle.av_name.specs.declared.constraints.Known.{Known};
 ghost use Rattle.av_split.specs.Split.{all_of, some_of, demand_known, demands_known, first_open, next_query};
-ghost use Rattle.av_split.specs.Cells.{known_at, IsCellOf, AreCellsOf, HasCellsOf, HaveCellsOf, IsStep, first_cell, IsFirst, AreSafe, or_cell, step_or, turned_step};
+ghost use Rattle.av_split.specs.Cells.{known_at, IsCellOf, AreCellsOf, HasCellsOf, HaveCellsOf, IsStep, first_cell, IsFirst, AreSafe, or_first, step_or, turned_step};
 ghost use Rattle.av_split.specs.declared.cells.Cell.{Cell};
 
 use crate::cells::{Cell, CellDemand, CellDemands, Cells};
@@ -10,28 +10,28 @@ use crate::path::Path;
 use crate::rows::Row;
 use av_name::Known;
 
-// What is known of queries together.
+/// What is known of queries together.
 #[derive(Clone, Copy)]
 pub enum Step {
-    // It holds.
+    /// It holds.
     Holds,
-    // It doesn't.
+    /// It doesn't.
     Fails,
-    // It is open, and so is this cell, the first.
+    /// It is open, and so is this cell, the first.
     Asks(Cell),
 }
 
-// What is known of a cell.
-fn known_at(rows: &[Row], cell: Cell) -> Known
+/// What is known of a cell.
+pub fn known_at(rows: &[Row], cell: Cell) -> Known
     requires { IsCellOf rows.now cell }
     ensures { result ≡ known_at rows.now cell }
 {
     rows[cell.child].get(cell.pattern).known
 }
 
-// The first of two cells.
-fn or_cell(first: Option<Cell>, cell: Cell) -> Option<Cell>
-    ensures { result ≡ or_cell first cell }
+/// The first of two cells.
+pub fn or_first(first: Option<Cell>, cell: Cell) -> Option<Cell>
+    ensures { result ≡ or_first first cell }
 {
     match first {
         Some(first) => Some(first),
@@ -39,8 +39,8 @@ fn or_cell(first: Option<Cell>, cell: Cell) -> Option<Cell>
     }
 }
 
-// The step to the first open cell, or else another.
-fn step_or(found: Option<Cell>, step: Step) -> Step
+/// The step to the first open cell, or else another.
+pub fn step_or(found: Option<Cell>, step: Step) -> Step
     ensures { result ≡ step_or found step }
 {
     match found {
@@ -59,7 +59,7 @@ fn embedding_step(rows: &[Row], cells: &Cells) -> Step
         match known_at(rows, *cell) {
             Known::In => {}
             Known::Out => return Step::Fails,
-            Known::Open => found = or_cell(found, *cell),
+            Known::Open => found = or_first(found, *cell),
         }
     }
     step_or(found, Step::Holds)
@@ -75,7 +75,7 @@ fn some_step(rows: &[Row], demand: &CellDemand) -> Step
         match embedding_step(rows, cells) {
             Step::Holds => return Step::Holds,
             Step::Fails => {}
-            Step::Asks(cell) => found = or_cell(found, cell),
+            Step::Asks(cell) => found = or_first(found, cell),
         }
     }
     step_or(found, Step::Fails)
@@ -164,8 +164,38 @@ fn some_broken(rows: &[Row], demands: &CellDemands, from: usize, last: Option<bo
     false
 }
 
-// A box is done where all demands are. It is open where some demand is, and none is broken. The number of demands before the
-// first that isn't done comes first.
+/// What is known of all demands in the box with these rows, of which so many are done, and the first open cell. A box is done
+/// where all demands are. It is open where some demand is, and none is broken. The number of demands before the first that
+/// isn't done comes first.
+pub fn rows_step(
+    rows: &[Row],
+    from: usize,
+    last: Option<bool>,
+    demands: &CellDemands,
+) -> (usize, Step)
+    requires cells { HaveCellsOf rows.now demands.now }
+    requires within { from ≤ length demands.now }
+    requires done { all_of (demand_known (known_at rows.now)) (take from demands.now) ≡ Known.In }
+    requires safe { AreSafe last (demand_known (known_at rows.now)) demands.now }
+    ensures within { result.0 ≤ length demands.now }
+    ensures done { all_of (demand_known (known_at rows.now)) (take result.0 demands.now) ≡ Known.In }
+    ensures step { IsStep result.1 (demands_known (known_at rows.now) demands.now) (next_query (known_at rows.now) demands.now) }
+{
+    let (first, step) = first_step(rows, demands, from);
+    match step {
+        Step::Holds => (first, Step::Holds),
+        Step::Fails => (first, Step::Fails),
+        Step::Asks(cell) => {
+            if some_broken(rows, demands, first, last) {
+                (first, Step::Fails)
+            } else {
+                (first, Step::Asks(cell))
+            }
+        }
+    }
+}
+
+/// The same of the box that a path leads to.
 pub fn next_step(path: &Path, demands: &CellDemands) -> (usize, Step)
     requires cells { HaveCellsOf path.now.rows.items demands.now }
     requires within { path.now.from ≤ length demands.now }
@@ -175,17 +205,5 @@ pub fn next_step(path: &Path, demands: &CellDemands) -> (usize, Step)
     ensures done { all_of (demand_known (known_at path.now.rows.items)) (take result.0 demands.now) ≡ Known.In }
     ensures step { IsStep result.1 (demands_known (known_at path.now.rows.items) demands.now) (next_query (known_at path.now.rows.items) demands.now) }
 {
-    let rows: &[Row] = &path.rows;
-    let (from, step) = first_step(rows, demands, path.from);
-    match step {
-        Step::Holds => (from, Step::Holds),
-        Step::Fails => (from, Step::Fails),
-        Step::Asks(cell) => {
-            if some_broken(rows, demands, from, path.last) {
-                (from, Step::Fails)
-            } else {
-                (from, Step::Asks(cell))
-            }
-        }
-    }
+    rows_step(&path.rows, path.from, path.last, demands)
 }

@@ -15,7 +15,7 @@ use av_sys::Constraint;
 use std::alloc::Global;
 use std::marker::Model;
 
-// A row of answers.
+/// A row of answers.
 #[derive(Drop)]
 pub struct Answers {
     items: Vec<bool>,
@@ -62,7 +62,7 @@ fn containments_of(alloc: Global, patterns: &Patterns) -> Result<Vec<Answers>, M
     Ok(rows)
 }
 
-// The patterns of a name at a root. Each two of them were compared once.
+/// The patterns of a name at a root. Each two of them were compared once.
 #[derive(Drop)]
 pub struct Table {
     patterns: Patterns,
@@ -86,7 +86,7 @@ impl Model for Table {
 }
 
 impl Table {
-    // The table of some patterns.
+    /// The table of some patterns.
     pub fn of(alloc: Global, patterns: Patterns) -> Result<Table, Memory>
         ensures { IfOk result (λ t. t ≡ patterns) }
     {
@@ -123,7 +123,7 @@ impl Table {
         Ok(row)
     }
 
-    // The rows of the box in which nothing is.
+    /// The rows of the box in which nothing is.
     pub fn free(&self, alloc: Global, children: usize) -> Result<Vec<Row>, Memory>
         ensures { IfOk result (λ rows. rows.items ≡ replicate children (map free_mark self.now)) }
     {
@@ -134,7 +134,7 @@ impl Table {
         Ok(rows)
     }
 
-    // Settles a pattern at a child: its word is required there, or avoided.
+    /// Settles a pattern at a child: its word is required there, or avoided.
     pub fn settle(&self, required: bool, p: usize, row: &mut Row)
         requires pattern { p < length self.now }
         requires size { length row.old ≡ length self.now }
@@ -176,7 +176,7 @@ impl Table {
         Ok(found)
     }
 
-    // The constraints of a box.
+    /// The constraints of a box.
     pub fn constraints(&self, alloc: Global, rows: &[Row]) -> Result<SplitBox, Memory>
         requires { (i : ℕ) → i < length rows.now → length (get_or rows.now i []) ≡ length self.now }
         ensures { IfOk result (λ b. b ≡ box_of self.now rows.now) }
