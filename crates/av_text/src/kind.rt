@@ -2,7 +2,7 @@
 ghost use Rattle.std.specs.Prelude.{◌≡◌};
 ghost use Rattle.av_text.specs.Kinds.{number_of};
 
-/// Why a script is refused.
+/// Why a script or a claim is refused.
 #[derive(Clone, Copy, Debug, PartialEq, Eq, thiserror::Error)]
 pub enum Kind {
     /// No line is a basis line.
@@ -28,7 +28,7 @@ pub enum Kind {
     /// A number is out of its range.
     #[error("a number is out of range")]
     Range = 7,
-    /// The text has more than 65,536 bytes.
+    /// A script has more than 65,536 bytes, or a claim more than 1,048,576.
     #[error("the text is too long")]
     TooLong = 8,
     /// A line holds a byte that is neither a tab nor from space to `~`.
@@ -43,6 +43,9 @@ pub enum Kind {
     /// A line is a format line, and so is an earlier one.
     #[error("there is a second format line")]
     SecondFormat = 12,
+    /// A line of a claim isn't as demanded in its place, or the text ends before the claim does.
+    #[error("the text is no claim")]
+    BadClaim = 13,
     /// The longest word of the basis line and the longest of the union line have together more than 10 entries.
     #[error("the words of the basis and of the union are too long together")]
     LongUnion = 14,
