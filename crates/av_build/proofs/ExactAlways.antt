@@ -21,7 +21,7 @@ use Rattle.av_build.proofs.BareSystems.{class_first}
 use Rattle.av_build.proofs.NameSystems.{named_law}
 
 -- the simple words below a gap are all that the class has
-gap_holds : (basis : List (List ℕ)) (g m : ℕ) → IsGap basis g → HoldsSimples basis (simples_below basis g) m
+pub gap_holds : (basis : List (List ℕ)) (g m : ℕ) → IsGap basis g → HoldsSimples basis (simples_below basis g) m
 gap_holds basis g m gap = record {
   simple = λ w i. (((below_list basis g).members w).0 i).simple;
   once = (below_list basis g).once;
