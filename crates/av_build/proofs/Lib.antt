@@ -10,6 +10,7 @@ pub mod GrownSizes
 pub mod BareSystems
 pub mod CanonicalForm
 pub mod ShortNames
+pub mod HeldWords
 pub mod PartialSteps
 pub mod Adding
 pub mod ChildNumbers

@@ -1,7 +1,7 @@
 // Which equations of a system generate something.
 ghost use Rattle.std.specs.Prelude.{◌≡◌, ◌<◌, ◌++◌, [], ◌∷◌, length, get_or, map, set, true, false, IfOk, OnOk, OnErr};
 ghost use Rattle.std.specs.List.{list_all, list_any};
-ghost use Rattle.av_build.specs.Alive.{has_marked, alive_marks};
+ghost use Rattle.av_build.specs.Alive.{has_marked, alive_marks, alive};
 ghost use Rattle.av_build.specs.Rounds.{IsSound, IsRound};
 
 use av_perm::Memory;
@@ -125,4 +125,12 @@ pub fn mark_alive(alloc: Global, system: &System) -> Result<MarkList, Memory>
     let mut marks = no_marks(alloc, &system.equations)?;
     'rounds: while mark_round(&system.equations, &mut marks) {}
     Ok(marks)
+}
+
+/// Whether an equation of the system has a derivation tree, so that it generates some word. None past the last has one.
+pub fn generates(alloc: Global, system: &System, equation: usize) -> Result<bool, Memory>
+    ensures { IfOk result (λ some. some ≡ alive system.now equation) }
+{
+    let marks = mark_alive(alloc, system)?;
+    Ok(marks.is_marked(equation))
 }

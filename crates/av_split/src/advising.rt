@@ -120,7 +120,7 @@ fn turned_step(required: bool, step: WordStep) -> WordStep
 fn some_step(root: &Perm, word: &Perm, cell: &SplitBox) -> WordStep
     requires root { 2 ≤ length root.now }
     requires small { length root.now ≤ MAX_ROOT_LENGTH }
-    requires short { length word.now ≤ 12 }
+    requires short { length word.now ≤ MAX_PATTERN_LENGTH }
     requires sized { length cell.now ≡ length root.now }
     ensures { IsWordStep result (some_of (all_of (word_rules.answer cell.now)) (map (queries root.now word.now) (embeddings root.now word.now))) (first_open (all_of (word_rules.answer cell.now)) (λ (m : List Query). first_open (word_rules.answer cell.now) (λ (q : Query). Some q) m) (map (queries root.now word.now) (embeddings root.now word.now))) }
 {
@@ -141,7 +141,7 @@ fn some_step(root: &Perm, word: &Perm, cell: &SplitBox) -> WordStep
 fn demand_step(root: &Perm, required: bool, word: &Perm, cell: &SplitBox) -> WordStep
     requires root { 2 ≤ length root.now }
     requires small { length root.now ≤ MAX_ROOT_LENGTH }
-    requires short { length word.now ≤ 12 }
+    requires short { length word.now ≤ MAX_PATTERN_LENGTH }
     requires sized { length cell.now ≡ length root.now }
     ensures { IsWordStep result (demand_known (word_rules.answer cell.now) (demand root.now required word.now)) (first_open (all_of (word_rules.answer cell.now)) (λ (m : List Query). first_open (word_rules.answer cell.now) (λ (q : Query). Some q) m) (map (queries root.now word.now) (embeddings root.now word.now))) }
 {
