@@ -24,85 +24,85 @@ use Rattle.av_print.proofs.UniqueReading.{Begins, Any, IsReadOff, AreSome, AreSe
 use Rattle.av_print.proofs.ReadWords.{AreShortWords, perms_short, IsShortWord, FollowsWords, is_no_word_byte, is_root_byte, root_read, root_begins, words_read}
 
 -- the number of an equation is read off before a byte that is no digit
-number_text_read : IsReadOff IsWritable (Begins is_no_digit) number_text
+pub number_text_read : IsReadOff IsWritable (Begins is_no_digit) number_text
 unfolding number_text
 number_text_read = record { one = λ m n u v sm sn bu bv e. number_read.one m n u v sm sn bu bv (append_cancel_left (codes "E") _ _ e) }
 
 -- a closing square bracket
-abbrev is_closing : ℕ → Bool
+abbrev pub is_closing : ℕ → Bool
 is_closing c = c == 93
 
 -- it is no digit
-closing_is_no_digit : (c : ℕ) → is_closing c ≡ true → is_no_digit c ≡ true
+pub closing_is_no_digit : (c : ℕ) → is_closing c ≡ true → is_no_digit c ≡ true
 closing_is_no_digit c e = subst (λ d. is_no_digit d ≡ true) (sym (eqb-true c 93 e)) refl
 
 -- children are read off before it
-children_read : IsReadOff (AreSome IsWritable) (Begins is_closing) children_text
+pub children_read : IsReadOff (AreSome IsWritable) (Begins is_closing) children_text
 unfolding children_text
 children_read = joined_read _ _ _ number_text (codes ",") (separated _ is_no_digit is_closing number_text (codes ",") number_text_read (λ u. refl) (λ u. refl) closing_is_no_digit)
 
 -- the roots of systems are words
-system_root : (π : List ℕ) → IsSystemRoot π → IsShortWord π
+pub system_root : (π : List ℕ) → IsSystemRoot π → IsShortWord π
 system_root π (inl e) = record { word = subst IsWord (sym e) (word_from sum_root refl); short = omega (arith, ap length e) }
 system_root π (inr (inl e)) = record { word = subst IsWord (sym e) (word_from skew_root refl); short = omega (arith, ap length e) }
 system_root π (inr (inr simple)) = record { word = record { numbers = simple.0.numbers; filled = omega (arith, simple.0.long) }; short = omega (arith, simple.1) }
 
 -- the terms of a system of fewer than 2 ^ 32 equations
-abbrev IsSomeTerm : Term → Type 0
+abbrev pub IsSomeTerm : Term → Type 0
 IsSomeTerm t = IsTermOf (2 ^ 32) t
 
 -- so are those of a well-formed system
-some_term : (n : ℕ) (t : Term) → n < 2 ^ 32 → IsTermOf n t → IsSomeTerm t
+pub some_term : (n : ℕ) (t : Term) → n < 2 ^ 32 → IsTermOf n t → IsSomeTerm t
 some_term n Point few is = tt
 some_term n (Node root children) few is = record { rooted = is.rooted; count = is.count; numbers = λ c i. omega (arith, is.numbers c i) }
 
 -- a node has children
-node_children : (root children : List ℕ) → IsSomeTerm (Node root children) → AreSome IsWritable children
+pub node_children : (root children : List ℕ) → IsSomeTerm (Node root children) → AreSome IsWritable children
 node_children root children is = record {
   some = omega (arith, is.count, (system_root root is.rooted).word.filled);
   each = λ c i. omega (arith, is.numbers c i);
 }
 
 -- a space
-abbrev is_space : ℕ → Bool
+abbrev pub is_space : ℕ → Bool
 is_space c = c == 32
 
 -- a space or a line feed
-abbrev ends_term : ℕ → Bool
+abbrev pub ends_term : ℕ → Bool
 ends_term c = is_space c || is_line_feed c
 
 -- it is neither a digit nor a comma
-end_is_no_word_byte : (c : ℕ) → ends_term c ≡ true → is_no_word_byte c ≡ true
+pub end_is_no_word_byte : (c : ℕ) → ends_term c ≡ true → is_no_word_byte c ≡ true
 end_is_no_word_byte c e = elim (or_cases (is_space c) (is_line_feed c) e) [
   | inl s ↦ subst (λ d. is_no_word_byte d ≡ true) (sym (eqb-true c 32 s)) refl
   | inr s ↦ subst (λ d. is_no_word_byte d ≡ true) (sym (eqb-true c 10 s)) refl
 ]
 
 -- a node's text, with what follows
-node_before : (root children u : List ℕ) → term_text (Node root children) ++ u ≡ root_text root ++ (codes "[" ++ (children_text children ++ (codes "]" ++ u)))
+pub node_before : (root children u : List ℕ) → term_text (Node root children) ++ u ≡ root_text root ++ (codes "[" ++ (children_text children ++ (codes "]" ++ u)))
 unfolding term_text
 node_before root children u =
     append_assoc (root_text root) (codes "[" ++ (children_text children ++ codes "]")) u
     ∙ ap (λ (s : List ℕ). root_text root ++ (codes "[" ++ s)) (append_assoc (children_text children) (codes "]") u)
 
 -- the point's text is that of the word 1 as a root
-point_before : (u : List ℕ) → term_text Point ++ u ≡ root_text (1 ∷ []) ++ u
+pub point_before : (u : List ℕ) → term_text Point ++ u ≡ root_text (1 ∷ []) ++ u
 unfolding digits word_text root_text term_text
 point_before u = refl
 
 -- the point as a root
-point_word : IsShortWord (1 ∷ [])
+pub point_word : IsShortWord (1 ∷ [])
 point_word = record { word = word_from (1 ∷ []) refl; short = omega arith }
 
 -- a point's text is not that of a node
-point_is_no_node : (root children u v : List ℕ) → IsSomeTerm (Node root children) → Begins ends_term u → term_text Point ++ u ≡ term_text (Node root children) ++ v → ⊥
+pub point_is_no_node : (root children u v : List ℕ) → IsSomeTerm (Node root children) → Begins ends_term u → term_text Point ++ u ≡ term_text (Node root children) ++ v → ⊥
 point_is_no_node root children u v is b e =
     let r = root_read.one (1 ∷ []) root u _ point_word (system_root root is.rooted) (begins_wider ends_term is_no_word_byte end_is_no_word_byte u b) refl
     (sym (point_before u) ∙ e ∙ node_before root children v) in
     begins_apart ends_term u (codes "[" ++ _) b refl r.1
 
 -- a term is read off before a space or a line feed
-term_read : IsReadOff IsSomeTerm (Begins ends_term) term_text
+pub term_read : IsReadOff IsSomeTerm (Begins ends_term) term_text
 term_read = record { one = λ t s u v p q b c e. by t s u v p q b c e }
   where
     by : (t s : Term) (u v : List ℕ) → IsSomeTerm t → IsSomeTerm s → Begins ends_term u → Begins ends_term v → term_text t ++ u ≡ term_text s ++ v → (t ≡ s) × (u ≡ v)
@@ -116,16 +116,16 @@ term_read = record { one = λ t s u v p q b c e. by t s u v p q b c e }
         (λ i. Node (r.0 i) (k.0 i), append_cancel_left (codes "]") u v k.1)
 
 -- a term begins with a digit or a bracket
-term_begins : (t : Term) (u : List ℕ) → IsSomeTerm t → Begins is_root_byte (term_text t ++ u)
+pub term_begins : (t : Term) (u : List ℕ) → IsSomeTerm t → Begins is_root_byte (term_text t ++ u)
 term_begins Point u p = subst (Begins is_root_byte) (sym (point_before u)) (root_begins (1 ∷ []) u point_word)
 term_begins (Node root children) u p = subst (Begins is_root_byte) (sym (node_before root children u)) (root_begins root _ (system_root root p.rooted))
 
 -- a line feed ends a term
-feed_ends_term : (c : ℕ) → is_line_feed c ≡ true → ends_term c ≡ true
+pub feed_ends_term : (c : ℕ) → is_line_feed c ≡ true → ends_term c ≡ true
 feed_ends_term c e = subst (λ d. ends_term d ≡ true) (sym (eqb-true c 10 e)) refl
 
 -- terms are read off before a line feed
-terms_read : IsReadOff (Each IsSomeTerm) (Begins is_line_feed) terms_text
+pub terms_read : IsReadOff (Each IsSomeTerm) (Begins is_line_feed) terms_text
 unfolding terms_text
 terms_read = record { one = λ ts ss u v p q b c e. by ts ss u v p q b c e }
   where
@@ -143,7 +143,7 @@ terms_read = record { one = λ ts ss u v p q b c e. by ts ss u v p q b c e }
         (joined_read _ _ _ term_text (codes " | ") between).one (t ∷ ts) (s ∷ ss) u v (record { some = omega arith; each = p }) (record { some = omega arith; each = q }) b c e
 
 -- a sign is read off
-sign_read : IsReadOff (λ (s : Sign). Unit {0}) Any sign_text
+pub sign_read : IsReadOff (λ (s : Sign). Unit {0}) Any sign_text
 sign_read = record { one = λ s r u v p q f g e. by s r u v e }
   where
     by : (s r : Sign) (u v : List ℕ) → sign_text s ++ u ≡ sign_text r ++ v → (s ≡ r) × (u ≡ v)
@@ -158,21 +158,21 @@ sign_read = record { one = λ s r u v p q f g e. by s r u v e }
     by M M u v e = (refl, append_cancel_left (codes "M") u v e)
 
 -- the words of a name are words
-record IsNamedByWords (n : Name) : Type 0 where
-  avoid : AreShortWords n.avoid
-  require : AreShortWords n.require
+pub record IsNamedByWords (n : Name) : Type 0 where
+  pub avoid : AreShortWords n.avoid
+  pub require : AreShortWords n.require
 
 -- texts in turn, with what follows them
-group_of_five : (a b c d e u : List ℕ) → (a ++ (b ++ (c ++ (d ++ e)))) ++ u ≡ a ++ (b ++ (c ++ (d ++ (e ++ u))))
+pub group_of_five : (a b c d e u : List ℕ) → (a ++ (b ++ (c ++ (d ++ e)))) ++ u ≡ a ++ (b ++ (c ++ (d ++ (e ++ u))))
 group_of_five a b c d e u = simp append_assoc
 
 -- a name's text, with what follows
-name_before : (n : Name) (u : List ℕ) → name_text n ++ u ≡ sign_text n.sign ++ (codes " avoid " ++ (words_text n.avoid ++ (codes " require " ++ (words_text n.require ++ u))))
+pub name_before : (n : Name) (u : List ℕ) → name_text n ++ u ≡ sign_text n.sign ++ (codes " avoid " ++ (words_text n.avoid ++ (codes " require " ++ (words_text n.require ++ u))))
 unfolding name_text
 name_before n u = group_of_five (sign_text n.sign) (codes " avoid ") (words_text n.avoid) (codes " require ") (words_text n.require) u
 
 -- a name is read off
-name_read : IsReadOff IsNamedByWords FollowsWords name_text
+pub name_read : IsReadOff IsNamedByWords FollowsWords name_text
 name_read = record {
   one = λ n m u v p q f g e.
       let s = sign_read.one n.sign m.sign _ _ tt tt tt tt (sym (name_before n u) ∙ e ∙ name_before m v) in
@@ -183,21 +183,21 @@ name_read = record {
 }
 
 -- an equation that can be read
-record IsEquation (e : Equation) : Type 0 where
-  name : IsNamedByWords e.name
-  terms : Each IsSomeTerm e.terms
+pub record IsEquation (e : Equation) : Type 0 where
+  pub name : IsNamedByWords e.name
+  pub terms : Each IsSomeTerm e.terms
 
 -- one text more
-group_of_six : (a b c d e f u : List ℕ) → (a ++ (b ++ (c ++ (d ++ (e ++ f))))) ++ u ≡ a ++ (b ++ (c ++ (d ++ (e ++ (f ++ u)))))
+pub group_of_six : (a b c d e f u : List ℕ) → (a ++ (b ++ (c ++ (d ++ (e ++ f))))) ++ u ≡ a ++ (b ++ (c ++ (d ++ (e ++ (f ++ u)))))
 group_of_six a b c d e f u = simp append_assoc
 
 -- the line of an equation, with what follows
-equation_before : (k : ℕ) (e : Equation) (u : List ℕ) → equation_text k e ++ u ≡ number_text k ++ (codes " " ++ (name_text e.name ++ (codes " = " ++ (terms_text e.terms ++ (codes "\n" ++ u)))))
+pub equation_before : (k : ℕ) (e : Equation) (u : List ℕ) → equation_text k e ++ u ≡ number_text k ++ (codes " " ++ (name_text e.name ++ (codes " = " ++ (terms_text e.terms ++ (codes "\n" ++ u)))))
 unfolding equation_text
 equation_before k e u = group_of_six (number_text k) (codes " ") (name_text e.name) (codes " = ") (terms_text e.terms) (codes "\n") u
 
 -- the line of an equation with a known number is read off
-equation_read : (k : ℕ) → IsReadOff IsEquation Any (equation_text k)
+pub equation_read : (k : ℕ) → IsReadOff IsEquation Any (equation_text k)
 equation_read k = record {
   one = λ d e u v p q f g is.
       let line = append_cancel_left (codes " ") _ _ (append_cancel_left (number_text k) _ _ (sym (equation_before k d u) ∙ is ∙ equation_before k e v)) in
@@ -207,25 +207,25 @@ equation_read k = record {
 }
 
 -- the first byte of the number of an equation
-abbrev begins_number : ℕ → Bool
+abbrev pub begins_number : ℕ → Bool
 begins_number c = c == 69
 
 -- the line of an equation begins with it
-equation_begins : (k : ℕ) (e : Equation) (u : List ℕ) → Begins begins_number (equation_text k e ++ u)
+pub equation_begins : (k : ℕ) (e : Equation) (u : List ℕ) → Begins begins_number (equation_text k e ++ u)
 unfolding number_text equation_text
 equation_begins k e u = refl
 
 -- no line of an equation begins the last line
-line_is_no_end : (k : ℕ) (e : Equation) (u : List ℕ) → equation_text k e ++ u ≡ codes "end\n" → ⊥
+pub line_is_no_end : (k : ℕ) (e : Equation) (u : List ℕ) → equation_text k e ++ u ≡ codes "end\n" → ⊥
 line_is_no_end k e u is = begins_apart begins_number _ (codes "end\n") (equation_begins k e u) refl is
 
 -- the lines of equations, with the last line
-lines_before : (k : ℕ) (e : Equation) (es : List Equation) → equations_text k (e ∷ es) ++ codes "end\n" ≡ equation_text k e ++ (equations_text (suc k) es ++ codes "end\n")
+pub lines_before : (k : ℕ) (e : Equation) (es : List Equation) → equations_text k (e ∷ es) ++ codes "end\n" ≡ equation_text k e ++ (equations_text (suc k) es ++ codes "end\n")
 unfolding equations_text
 lines_before k e es = append_assoc (equation_text k e) (equations_text (suc k) es) (codes "end\n")
 
 -- equations that are numbered from k on are read off before the last line
-equations_read : (k : ℕ) (ds es : List Equation) → Each IsEquation ds → Each IsEquation es → equations_text k ds ++ codes "end\n" ≡ equations_text k es ++ codes "end\n" → ds ≡ es
+pub equations_read : (k : ℕ) (ds es : List Equation) → Each IsEquation ds → Each IsEquation es → equations_text k ds ++ codes "end\n" ≡ equations_text k es ++ codes "end\n" → ds ≡ es
 unfolding equations_text
 equations_read k [] [] p q is = refl
 equations_read k [] (e ∷ es) p q is = absurd (line_is_no_end k e _ (sym (is ∙ lines_before k e es)))
@@ -236,17 +236,17 @@ equations_read k (d ∷ ds) (e ∷ es) p q is =
     (λ i. first.0 i ∷ rest i)
 
 -- seven texts before another
-group_of_seven : (a b c d e f g u : List ℕ) → (a ++ (b ++ (c ++ (d ++ (e ++ (f ++ g)))))) ++ u ≡ a ++ (b ++ (c ++ (d ++ (e ++ (f ++ (g ++ u))))))
+pub group_of_seven : (a b c d e f g u : List ℕ) → (a ++ (b ++ (c ++ (d ++ (e ++ (f ++ g)))))) ++ u ≡ a ++ (b ++ (c ++ (d ++ (e ++ (f ++ (g ++ u))))))
 group_of_seven a b c d e f g u = simp append_assoc
 
 -- the first line, with what follows
-counts_before : (x m n : ℕ) (u : List ℕ)
+pub counts_before : (x m n : ℕ) (u : List ℕ)
     → counts_text x m n ++ u ≡ codes "system " ++ (decimal x ++ (codes " equations " ++ (decimal m ++ (codes " terms " ++ (decimal n ++ (codes "\n" ++ u))))))
 unfolding counts_text
 counts_before x m n u = group_of_seven (codes "system ") (decimal x) (codes " equations ") (decimal m) (codes " terms ") (decimal n) (codes "\n") u
 
 -- the version, and what follows the first line, are known
-after_counts : (x m n y k l : ℕ) (u v : List ℕ) → counts_text x m n ++ u ≡ counts_text y k l ++ v → (decimal x ≡ decimal y) × (u ≡ v)
+pub after_counts : (x m n y k l : ℕ) (u v : List ℕ) → counts_text x m n ++ u ≡ counts_text y k l ++ v → (decimal x ≡ decimal y) × (u ≡ v)
 after_counts x m n y k l u v e =
     let whole = append_cancel_left (codes "system ") _ _ (sym (counts_before x m n u) ∙ e ∙ counts_before y k l v) in
     let version = cut_once is_no_digit (decimal x) (decimal y) (codes " equations " ++ (decimal m ++ (codes " terms " ++ (decimal n ++ (codes "\n" ++ u)))))
@@ -257,7 +257,7 @@ after_counts x m n y k l u v e =
     (version.0, append_cancel_left (codes "\n") u v terms.1)
 
 -- the equations of a system can be read
-system_equations : (S : System) → IsWellFormed S → AreNamedByWords S → Each IsEquation S.equations
+pub system_equations : (S : System) → IsWellFormed S → AreNamedByWords S → Each IsEquation S.equations
 system_equations S formed named e i =
     let s = at_In S.equations e e i in
     let words : IsMadeOfWords e.name = subst (λ (x : Equation). IsMadeOfWords x.name) s.2 (named s.0 e s.1) in

@@ -44,7 +44,7 @@ entry_least w word n i =
     omega (arith, s.2, within.1)
 
 -- so it can be written
-entries_writable : (w : List ℕ) → IsShortWord w → Each IsWritable w
+pub entries_writable : (w : List ℕ) → IsShortWord w → Each IsWritable w
 entries_writable w p n i = omega (arith, entry_least w p.word n i, p.short)
 
 -- neither a digit nor a comma
@@ -52,7 +52,7 @@ abbrev pub is_no_word_byte : ℕ → Bool
 is_no_word_byte c = not (is_ascii_digit c || is_comma c)
 
 -- it is no digit
-no_digit_from : (c : ℕ) → is_no_word_byte c ≡ true → is_no_digit c ≡ true
+pub no_digit_from : (c : ℕ) → is_no_word_byte c ≡ true → is_no_digit c ≡ true
 no_digit_from c = by (is_ascii_digit c) (is_comma c)
   where
     by : (a b : Bool) → not (a || b) ≡ true → not a ≡ true
@@ -60,7 +60,7 @@ no_digit_from c = by (is_ascii_digit c) (is_comma c)
     by false b e = refl
 
 -- entries of one digit, one after another
-digits_separated : AreSeparated (λ n. n < 10) Any (Begins is_no_digit) decimal []
+pub digits_separated : AreSeparated (λ n. n < 10) Any (Begins is_no_digit) decimal []
 digits_separated = record {
   item = record { one = λ m n u v sm sn fu fv e. one m n u v sm sn e };
   next = λ n u small. tt;
@@ -75,7 +75,7 @@ digits_separated = record {
         (omega arith, cc)
 
 -- entries joined by commas
-entries_separated : AreSeparated IsWritable (Begins is_no_digit) (Begins is_no_word_byte) decimal (codes ",")
+pub entries_separated : AreSeparated IsWritable (Begins is_no_digit) (Begins is_no_word_byte) decimal (codes ",")
 entries_separated = separated _ is_no_digit is_no_word_byte decimal (codes ",") number_read (λ u. refl) (λ u. refl) no_digit_from
 
 -- the two forms of a word's text
@@ -88,7 +88,7 @@ unfolding word_text
 long_form w lt = ap (λ (b : Bool). cond b (join_by decimal [] w) (join_by decimal (codes ",") w)) (lt-leb (length w) 9 lt)
 
 -- no byte of a short form is but a digit
-short_free : (w : List ℕ) → Free is_no_digit (join_by decimal [] w)
+pub short_free : (w : List ℕ) → Free is_no_digit (join_by decimal [] w)
 short_free [] = tt
 short_free (n ∷ w) = free_append is_no_digit (decimal n) _ (numeral_free n) (others w)
   where
@@ -97,7 +97,7 @@ short_free (n ∷ w) = free_append is_no_digit (decimal n) _ (numeral_free n) (o
     others (m ∷ w) = free_append is_no_digit (decimal m) _ (numeral_free m) (others w)
 
 -- a short form is no long one
-forms_apart : (x y u v : List ℕ) → 9 < length y → Begins is_no_word_byte u → join_by decimal [] x ++ u ≡ join_by decimal (codes ",") y ++ v → ⊥
+pub forms_apart : (x y u v : List ℕ) → 9 < length y → Begins is_no_word_byte u → join_by decimal [] x ++ u ≡ join_by decimal (codes ",") y ++ v → ⊥
 forms_apart x [] u v lt b e = omega arith
 forms_apart x (m ∷ []) u v lt b e = omega arith
 forms_apart x (m ∷ n ∷ y) u v lt b e =
@@ -145,7 +145,7 @@ pub record FollowsWords (u : List ℕ) : Type 0 where
   pub stops : Begins is_no_digit rest
 
 -- words are separated by spaces
-words_separated : AreSeparated IsShortWord (Begins is_no_word_byte) FollowsWords word_text (codes " ")
+pub words_separated : AreSeparated IsShortWord (Begins is_no_word_byte) FollowsWords word_text (codes " ")
 words_separated = record {
   item = word_read;
   next = λ w u p. refl;
@@ -155,7 +155,7 @@ words_separated = record {
 }
 
 -- a list of words begins with a digit, and an empty one with no digit
-none_apart : (w : List ℕ) (ws : List (List ℕ)) (u v : List ℕ) → IsShortWord w → codes "none" ++ u ≡ join_by word_text (codes " ") (w ∷ ws) ++ v → ⊥
+pub none_apart : (w : List ℕ) (ws : List (List ℕ)) (u v : List ℕ) → IsShortWord w → codes "none" ++ u ≡ join_by word_text (codes " ") (w ∷ ws) ++ v → ⊥
 none_apart w ws u v p e = begins_apart is_ascii_digit _ (codes "none" ++ u) (word_begins w (flat_map (λ x. codes " " ++ word_text x) ws ++ v) p) refl
     (sym (e ∙ append_assoc (word_text w) _ v))
 
@@ -174,19 +174,19 @@ words_read = record { one = λ ws vs u v p q f g e. by ws vs u v (short_each ws 
         (record { some = omega arith; each = p }) (record { some = omega arith; each = q }) f g e
 
 -- the two forms of a root's text
-plain_root : (π : List ℕ) → length π ≤ 9 → root_text π ≡ word_text π
+pub plain_root : (π : List ℕ) → length π ≤ 9 → root_text π ≡ word_text π
 unfolding root_text
 plain_root π le = ap (λ (b : Bool). cond b (word_text π) (codes "(" ++ (word_text π ++ codes ")"))) (le-leb (length π) 9 le)
 
-bracketed_root : (π : List ℕ) → 9 < length π → root_text π ≡ codes "(" ++ (word_text π ++ codes ")")
+pub bracketed_root : (π : List ℕ) → 9 < length π → root_text π ≡ codes "(" ++ (word_text π ++ codes ")")
 unfolding root_text
 bracketed_root π lt = ap (λ (b : Bool). cond b (word_text π) (codes "(" ++ (word_text π ++ codes ")"))) (lt-leb (length π) 9 lt)
 
 -- with what follows
-bracketed_before : (π u : List ℕ) → 9 < length π → root_text π ++ u ≡ codes "(" ++ (word_text π ++ (codes ")" ++ u))
+pub bracketed_before : (π u : List ℕ) → 9 < length π → root_text π ++ u ≡ codes "(" ++ (word_text π ++ (codes ")" ++ u))
 bracketed_before π u lt = ap (λ (s : List ℕ). s ++ u) (bracketed_root π lt) ∙ ap (λ (s : List ℕ). codes "(" ++ s) (append_assoc (word_text π) (codes ")") u)
 
-plain_before : (π u : List ℕ) → length π ≤ 9 → root_text π ++ u ≡ word_text π ++ u
+pub plain_before : (π u : List ℕ) → length π ≤ 9 → root_text π ++ u ≡ word_text π ++ u
 plain_before π u le = ap (λ (s : List ℕ). s ++ u) (plain_root π le)
 
 -- a root is read off before a byte that is neither a digit nor a comma
@@ -207,7 +207,7 @@ root_read = record { one = λ x y u v px py bu bv e. by x y u v px py bu bv e (c
     by x y u v px py bu bv e (inr sx) (inr sy) = word_read.one x y u v px py bu bv (sym (plain_before x u sx) ∙ e ∙ plain_before y v sy)
 
 -- an opening bracket
-abbrev is_opening : ℕ → Bool
+abbrev pub is_opening : ℕ → Bool
 is_opening c = c == 40
 
 -- a digit or an opening bracket

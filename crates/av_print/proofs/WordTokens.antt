@@ -84,7 +84,7 @@ long_entries (n ∷ m ∷ w) long small =
     rw (no_digits n m w, comma_form n m w small) (ap Some (ap (map (digits_value 10)) (parts n (m ∷ w)) ∙ values (n ∷ m ∷ w) small))
 
 -- the entries of a word's text
-entries_said : (w : List ℕ) → IsTrue (is_perm w) → entries_of (word_text w) ≡ Some w
+pub entries_said : (w : List ℕ) → IsTrue (is_perm w) → entries_of (word_text w) ≡ Some w
 entries_said w is = by (perm_word w is) (perm_short w is) (cases_lt 9 (length w))
   where
     by : IsWord w → length w ≤ MAX_LENGTH → (9 < length w) ⊎ (length w ≤ 9) → entries_of (word_text w) ≡ Some w
