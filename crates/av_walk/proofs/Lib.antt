@@ -1,0 +1,10 @@
+pub mod GenericWalk
+pub mod Treatments
+pub mod Living
+pub mod SiftedTerms
+pub mod SettledLooks
+pub mod Staying
+pub mod Turning
+pub mod Starting
+pub mod Planned
+pub mod Numbering

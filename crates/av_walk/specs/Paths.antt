@@ -1,0 +1,122 @@
+-- The walk over the leaves: the path to the present box, and which leaves are left.
+use Rattle.std.specs.List.{flat_map}
+use Rattle.std.specs.Prelude.{◌≡◌, ℕ, ◌<◌, ◌≤◌, Bool, true, false, cond, List, [], ◌∷◌, ◌++◌, map, length, take, reverse, get_or, set, All, Option, Some, None}
+use Rattle.av_perm.specs.Members.{In}
+use Rattle.av_perm.specs.Relations.{IsWord}
+use Rattle.av_sys.specs.declared.terms.Equation.{Equation}
+use Rattle.av_sys.specs.declared.terms.System.{System}
+use Rattle.av_name.specs.declared.constraints.Known.{Known}
+use Rattle.av_name.specs.declared.constraints.Known.TheVariants.{In as Inside, Out as Outside, Open}
+use Rattle.av_split.specs.declared.cells.Cell.{Cell}
+use Rattle.av_split.specs.declared.rows.Mark.{Mark}
+use Rattle.av_split.specs.Split.{Demand, demand_known, demands_known, next_query, all_of}
+use Rattle.av_split.specs.Boxes.{Query, Box, word_rules, demands}
+use Rattle.av_split.specs.Marks.{IsSettled, box_of}
+use Rattle.av_split.specs.Cells.{AreDemandsOf, query_at, known_at, AreSafe}
+use Rattle.av_split.specs.Walk.{AreRows, Either}
+use Rattle.av_walk.specs.declared.path.Path.{Path}
+use Rattle.av_walk.specs.declared.path.State.{State}
+use Rattle.av_walk.specs.declared.path.State.TheVariants as states
+use Rattle.av_walk.specs.declared.path.Turn.{Turn}
+use Rattle.av_walk.specs.Walk.{Literal, term_known, inside_count, next_of_terms, Treatment, splits, treated, Leaf, walk}
+use Rattle.av_walk.specs.Leaves.{literals, names_of_root}
+use Rattle.av_walk.specs.Numbers.{AreTermsOf}
+use Rattle.av_walk.specs.Sifts.{picked, AreAlive}
+
+-- what becomes of a box, by what is known of cells
+abbrev pub treatment_at : (Cell → Known) → List (Demand Cell) → List (List (Literal Cell)) → Treatment Cell
+treatment_at f ds ts = treated (demands_known f ds) (inside_count f ts) (next_of_terms f ts) (next_query f ds)
+
+-- all demands are done, or one is broken
+abbrev pub settled : Bool → Known
+settled true = Inside
+settled false = Outside
+
+-- so many demands are done; or all are settled, and the terms with these numbers are all that aren't refuted, and maybe more
+abbrev pub IsKnownBy : (Cell → Known) → List (Demand Cell) → List (List (Literal Cell)) → State → Type 0
+IsKnownBy f ds ts (states.Open n) = (n ≤ length ds) × (all_of (demand_known f) (take n ds) ≡ Inside)
+IsKnownBy f ds ts (states.Settled done live) = (demands_known f ds ≡ settled done) × All (λ i. i < length ts) live.items × AreAlive (term_known f) ts (picked ts live.items)
+
+-- where the demands aren't called settled, they aren't
+abbrev pub IsOpenBy : (Cell → Known) → List (Demand Cell) → State → Type 0
+IsOpenBy f ds (states.Open n) = demands_known f ds ≡ Open
+IsOpenBy f ds (states.Settled done live) = Unit {0}
+
+-- the rows of a box before it was cut
+abbrev pub before : Turn → List (List Mark) → List (List Mark)
+before t rows = set rows t.cell.child t.row
+
+-- a box of `k` children that was cut by a cell
+pub record IsCut (k : ℕ) (ps : List (List ℕ)) (ds : List (Demand Cell)) (ts : List (List (Literal Cell))) (rows : List (List Mark)) (state : State) (cell : Cell) : Type 0 where
+  pub marks : AreRows k ps rows
+  pub known : IsKnownBy (known_at rows) ds ts state
+  pub unsettled : IsOpenBy (known_at rows) ds state
+  pub splits : treatment_at (known_at rows) ds ts ≡ splits cell
+
+-- the cuts of a path, from the last one on
+abbrev pub AreCuts : ℕ → List (List ℕ) → List (Demand Cell) → List (List (Literal Cell)) → List Turn → List (List Mark) → Type 0
+AreCuts k ps ds ts [] rows = Unit {0}
+AreCuts k ps ds ts (t ∷ turns) rows = IsCut k ps ds ts (before t rows) t.state t.cell × AreCuts k ps ds ts turns (before t rows)
+
+-- no demand that the last cut could not break is broken, where the demands weren't settled before it
+abbrev pub IsSafeBy : (Cell → Known) → List (Demand Cell) → Bool → State → Type 0
+IsSafeBy f ds required (states.Open n) = AreSafe (Some required) (demand_known f) ds
+IsSafeBy f ds required (states.Settled done live) = Unit {0}
+
+-- what was known before the last cut still is
+abbrev pub Inherits : (Cell → Known) → List (Demand Cell) → List (List (Literal Cell)) → List Turn → Type 0
+Inherits f ds ts [] = Unit {0}
+Inherits f ds ts (t ∷ turns) = IsKnownBy f ds ts t.state × IsSafeBy f ds t.required t.state
+
+-- a path to a box of `k` children
+pub record IsPath (k : ℕ) (ps : List (List ℕ)) (ds : List (Demand Cell)) (ts : List (List (Literal Cell))) (p : Path) : Type 0 where
+  pub marks : AreRows k ps p.rows.items
+  pub known : Inherits (known_at p.rows.items) ds ts (reverse p.turns.items)
+  pub cuts : AreCuts k ps ds ts (reverse p.turns.items) p.rows.items
+
+-- the parts that a path leaves for later, from its last cut on
+abbrev pub parts_left : List (List ℕ) → List Turn → List (List Mark) → List Box
+parts_left ps [] rows = []
+parts_left ps (t ∷ turns) rows = cond t.required [] (word_rules.settle true (box_of ps (before t rows)) (query_at ps t.cell) ∷ []) ++ parts_left ps turns (before t rows)
+
+-- the box that a path leads to, and the parts that it leaves for later
+abbrev pub parts_of : List (List ℕ) → Option Path → List Box
+parts_of ps None = []
+parts_of ps (Some p) = box_of ps p.rows.items ∷ parts_left ps (reverse p.turns.items) p.rows.items
+
+-- the leaves that they give
+abbrev pub left_of : List (Demand Query) → List (List (Literal Query)) → List (List ℕ) → Option Path → List (Leaf Box)
+left_of ds ts ps p = flat_map (walk word_rules ds ts) (parts_of ps p)
+
+-- what the terms of an equation ask that have a root
+abbrev pub asked_of : System → List ℕ → Equation → List (List (Literal Query))
+asked_of S root e = map (literals 0) (names_of_root S root e.terms)
+
+-- the literal asks about a word at one of `k` children
+abbrev pub IsAptLiteral : ℕ → Literal Query → Type 0
+IsAptLiteral k l = (l.query.child < k) × IsWord l.query.word
+
+-- the path, unless none is left, is of a root, a name and terms, whose demands and literals have these cells
+pub record IsWalk (π : List ℕ) (A R : List (List ℕ)) (asked : List (List (Literal Query))) (ps : List (List ℕ)) (ds : List (Demand Cell)) (ts : List (List (Literal Cell))) (p : Option Path) : Type 0 where
+  pub avoid : (w : List ℕ) → In w A → IsWord w
+  pub require : (w : List ℕ) → In w R → IsWord w
+  pub literals : (t : List (Literal Query)) → In t asked → (l : Literal Query) → In l t → IsAptLiteral (length π) l
+  pub cells : AreDemandsOf (length π) ps ds (demands π A R)
+  pub terms : AreTermsOf (length π) ps ts asked
+  pub path : (q : Path) → p ≡ Some q → IsPath (length π) ps ds ts q
+
+-- the cells of cuts are of the rows
+abbrev pub AreTurns : List (List ℕ) → List Turn → List (List Mark) → Type 0
+AreTurns ps turns rows = (t : Turn) → In t turns → (t.cell.child < length rows) × (t.cell.pattern < length ps) × (length t.row ≡ length ps)
+
+-- a path once the box with these rows, after these cuts, is cut by a cell, of which the pattern is required then, or avoided
+pub record IsEntered (required : Bool) (ps : List (List ℕ)) (cell : Cell) (state : State) (marks : List (List Mark)) (cuts : List Turn) (next : Path) : Type 0 where
+  pub row : List Mark
+  pub settled : IsSettled required ps cell.pattern (get_or marks cell.child []) row
+  pub rows : next.rows.items ≡ set marks cell.child row
+  pub turns : reverse next.turns.items ≡ record { cell = cell; row = get_or marks cell.child []; state = state; required = required } ∷ cuts
+
+-- the way back along cuts, from the last one on, to the first that leaves a part for later, which is entered
+abbrev pub GoesBack : List (List ℕ) → List Turn → List (List Mark) → Option Path → Type 0
+GoesBack ps [] rows next = next ≡ None
+GoesBack ps (t ∷ turns) rows next = Either t.required (GoesBack ps turns (before t rows) next) ((p : Path) × (next ≡ Some p) × IsEntered true ps t.cell t.state (before t rows) turns p)

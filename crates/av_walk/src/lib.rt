@@ -1,0 +1,15 @@
+//! The walk over the cells of a root: a cell is split until the demands of a name and the terms of its equation are settled.
+#![tactic(auto)]
+
+mod leaves;
+mod literals;
+mod looking;
+mod path;
+#[cfg(test)]
+mod plain_walk;
+mod sifting;
+mod terms;
+#[cfg(test)]
+mod tests;
+
+pub use leaves::{CellEnd, Leaves};
