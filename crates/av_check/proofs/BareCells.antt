@@ -1,0 +1,166 @@
+-- The names of the children of a bare leaf: their canonical systems can be grown.
+use Rattle.std.proofs.Common.{◌≡◌, ℕ, suc, ◌<◌, ◌≤◌, ◌⊎◌, inl, inr, true, false, not, ◌||◌, List, [], ◌∷◌, map, length, replicate, refl, sym, ap, ◌∙◌, subst, arith}
+use Rattle.std.specs.List.{flat_map, list_any}
+use Rattle.std.specs.Cmp.Lexicographic.{pointwise}
+use Rattle.std.proofs.lemmas.Bool.{cases_Bool, or_parts}
+use Rattle.std.proofs.lemmas.List.{get_or-replicate}
+use Rattle.av_perm.specs.declared.limits.TheConstants.{MAX_PATTERN_LENGTH}
+use Rattle.av_perm.specs.Members.{In}
+use Rattle.av_perm.specs.Lists.{same}
+use Rattle.av_perm.specs.Contain.{contains}
+use Rattle.av_perm.specs.Class.{minimal, top}
+use Rattle.av_perm.specs.Relations.{IsWord, Contains, pattern_of}
+use Rattle.av_perm.proofs.Membership.{Each, In_joined, In_append_cases, In_map, In_flat_map, append_left, map_In}
+use Rattle.av_perm.proofs.Containment.{contains_trans}
+use Rattle.av_perm.proofs.Fibres.{fibre_at}
+use Rattle.av_perm.proofs.Occurrences.{contains_from}
+use Rattle.av_perm.proofs.Patterns.{length_pattern, word_pattern}
+use Rattle.av_perm.proofs.Tests.{any_from, any_to}
+use Rattle.av_embed.specs.Embed.{fibre, embeddings}
+use Rattle.av_embed.proofs.EmbeddingList.{embedding_to}
+use Rattle.av_sys.specs.declared.names.Sign.{Sign}
+use Rattle.av_sys.specs.declared.names.Name.{Name}
+use Rattle.av_name.specs.declared.constraints.Known.{Known}
+use Rattle.av_name.specs.declared.constraints.Known.TheVariants.{In as Inside}
+use Rattle.av_name.specs.Constraints.{free}
+use Rattle.av_name.proofs.Answered.{outside_is}
+use Rattle.av_split.specs.Split.{Demand, all_of, some_of, demand_known, demands_known, queries_of}
+use Rattle.av_split.specs.Boxes.{Query, Box, child_of, word_rules, ask, queries, demand, demands}
+use Rattle.av_split.proofs.GenericSplit.{each_inside, each_outside, one_outside, unflipped}
+use Rattle.av_split.proofs.WordSplit.{start_fine, In_ask, demands_each, demands_apt, constant, constant_fibre, nonempty_has}
+use Rattle.av_split.proofs.BoxWords.{FineWith, AptWith, words_law, start_words, fibre_short}
+use Rattle.av_build.specs.Drafts.{child_names}
+use Rattle.av_build.specs.Canonical.{is_void}
+use Rattle.av_build.specs.Laws.{Covers}
+use Rattle.av_build.proofs.NamesOver.{child_name_In}
+use Rattle.av_build.proofs.ShortNames.{each_all, all_each}
+use Rattle.av_walk.specs.Walk.{Literal, bare, Leaf}
+use Rattle.av_walk.specs.Leaves.{literals, leaves}
+use Rattle.av_walk.proofs.GenericWalk.{queries_with}
+use Rattle.av_check.specs.Verdicts.{leaves_class, is_wrong_name}
+use Rattle.av_check.specs.Laws.{IsWordName}
+use Rattle.av_check.specs.Checks.{AreShort, IsShortName}
+use Rattle.av_check.specs.Outcomes.{IsGrowable}
+use Rattle.av_check.proofs.CellTreatments.{queries_in, IsFair}
+use Rattle.av_check.proofs.GenericWalk.{walk_leaf}
+use Rattle.av_check.proofs.NameLiterals.{child_each, literals_apt}
+use Rattle.av_check.proofs.RootLeaves.{settled}
+use Rattle.av_check.proofs.RightNames.{not_misnamed}
+use Rattle.av_check.proofs.TidyNames.{top_same}
+
+-- where all demands of a name are done in a cell, each avoided word of the name contains an avoided word of each child
+cell_avoids : (π : List ℕ) (A R : List (List ℕ)) (γ : List ℕ) (x : Box) (i : ℕ) → Each IsWord A → In γ A → demands_known (word_rules.answer x) (demands π A R) ≡ Inside → i < length π
+    → (a : List ℕ) × In a (child_of x i).avoid × Contains γ a
+cell_avoids π A R γ x i ga inA done hi =
+    let f : Query → Known = word_rules.answer x in
+    let d = each_inside (demand_known f) (demands π A R) done (demand π false γ) (append_left (map (demand π false) A) (map (demand π true) R) (demand π false γ) (map_In (demand π false) A γ inA)) in
+    let out = unflipped (some_of (all_of f) (map (queries π γ) (embeddings π γ))) d in
+    let e : List ℕ = replicate (length γ) (suc i) in
+    let m = each_outside (all_of f) (map (queries π γ) (embeddings π γ)) out (queries π γ e) (map_In (queries π γ) (embeddings π γ) e (embedding_to π γ e (constant π γ i hi))) in
+    let q = one_outside f (queries π γ e) m in
+    let j = In_joined (λ n. ask n (fibre γ e (suc n))) (length π) q.0 q.1 in
+    let asked = In_ask j.0 (fibre γ e (suc j.0)) q.0 j.2 in
+    let item = nonempty_has (fibre γ e (suc j.0)) asked.1 in
+    let place = fibre_at γ e (suc j.0) item.0 0 item.1 in
+    let here : suc j.0 ≡ suc i = sym place.3 ∙ get_or-replicate (length γ) place.0 (suc i) 0 place.1 in
+    let word : pattern_of (fibre γ e (suc j.0)) ≡ γ = ap (λ n. pattern_of (fibre γ e n)) here ∙ ap pattern_of (constant_fibre γ (suc i)) ∙ word_pattern γ (ga γ inA).numbers in
+    let child : q.0.child ≡ i = ap (λ (p : Query). p.child) asked.0 ∙ omega (arith, here) in
+    let text : q.0.word ≡ γ = ap (λ (p : Query). p.word) asked.0 ∙ word in
+    let o = ((outside_is (child_of x q.0.child) q.0.word).0 q.2).1 in
+    (o.0, subst (λ n. In o.0 (child_of x n).avoid) child o.1, subst (λ v. Contains v o.0) text o.2)
+
+-- the avoided words of a name that doesn't leave the class cover those of the claim's name
+covered_class : (first n : Name) → leaves_class first n ≡ false → Covers first.avoid n.avoid
+covered_class first n e b i = elim (cases_Bool (list_any (contains b) n.avoid)) [
+  | inl h ↦ let a = any_from (contains b) n.avoid h in (a.0, a.1, contains_from b a.0 a.2)
+  | inr h ↦ absurd (let t : true ≡ false = sym (any_to (λ b. not (list_any (contains b) n.avoid)) first.avoid b i (ap not h)) ∙ e in cc)
+]
+
+-- so where its equation may have the name
+pub covered_right : (first : Name) (u : ℕ) (n : Name) → is_wrong_name first u n ≡ false → Covers first.avoid n.avoid
+covered_right first u n e =
+    let p = or_parts (not (pointwise same (minimal n.avoid) n.avoid)) (not (pointwise same (top n.require) n.require) || (is_void n || leaves_class first n)) (not_misnamed first n u e) in
+    let q = or_parts (not (pointwise same (top n.require) n.require)) (is_void n || leaves_class first n) p.1 in
+    covered_class first n (or_parts (is_void n) (leaves_class first n) q.1).1
+
+-- a word of at most so many entries as a pattern may have
+abbrev Short : List ℕ → Type 0
+Short w = length w ≤ MAX_PATTERN_LENGTH
+
+module _ (π : List ℕ) (n : Name) (nss : List (List Name)) (w : IsWord π) (own : IsWordName n) (sized : Each (λ ns. length ns ≡ length π) nss) (words : Each (λ ns. Each IsWordName ns) nss)
+    (short : IsShortName n) (shorts : Each (λ ns. Each IsShortName ns) nss) where
+  abbrev ds : List (Demand Query)
+  ds = demands π n.avoid n.require
+
+  abbrev ts : List (List (Literal Query))
+  ts = map (literals 0) nss
+
+  abbrev start : Box
+  start = replicate (length π) free
+
+  -- the queries of the name have short words
+  own_short : Each (AptWith Short (length π)) (queries_of ds)
+  own_short q i = record {
+    apt = demands_apt π n.avoid n.require own.avoids own.requires q i;
+    word = demands_each (λ (x : Query). Short x.word) π n.avoid n.require asked q i;
+  }
+    where
+      word_short : (γ : List ℕ) → In γ n.avoid ⊎ In γ n.require → Short γ
+      word_short γ (inl j) = all_each Short n.avoid short.avoid γ j
+      word_short γ (inr j) = all_each Short n.require short.require γ j
+
+      asked : (γ e : List ℕ) → In γ n.avoid ⊎ In γ n.require → Each (λ (q : Query). Short q.word) (queries π γ e)
+      asked γ e o q j =
+          let r = In_joined (λ k. ask k (fibre γ e (suc k))) (length π) q j in
+          let a = In_ask r.0 (fibre γ e (suc r.0)) q r.2 in
+          let l : Short (pattern_of (fibre γ e (suc r.0))) = omega (arith, length_pattern (fibre γ e (suc r.0)), fibre_short γ e (suc r.0), word_short γ o) in
+          subst Short (sym (ap (λ (x : Query). x.word) a.0)) l
+
+  -- and so have those of the terms
+  literals_short : (i : ℕ) (ns : List Name) → Each IsShortName ns → Each (λ (l : Literal Query). Short l.query.word) (literals i ns)
+  literals_short i [] h l j = absurd j
+  literals_short i (m ∷ ns) h l j = elim (In_append_cases _ (literals (suc i) ns) l j) [
+    | inl k ↦
+        let s = h m (inl refl) in
+        child_each (λ (l : Literal Query). Short l.query.word) i m (λ v g. all_each Short m.avoid s.avoid v g) (λ v g. all_each Short m.require s.require v g) l k
+    | inr k ↦ literals_short (suc i) ns (λ x p. h x (inr p)) l k
+  ]
+
+  all_short : Each (AptWith Short (length π)) (queries_with ds ts)
+  all_short q i = elim (In_append_cases (queries_of ds) (flat_map (queries_in {Q = Query}) ts) q i) [
+    | inl j ↦ own_short q j
+    | inr j ↦
+        let r = In_flat_map (queries_in {Q = Query}) ts q j in
+        let s = In_map (literals 0) nss r.0 r.1 in
+        let l = In_map (λ (l : Literal Query). l.query) r.0 q r.2 in
+        let k = subst (In l.0) s.2 l.1 in
+        subst (AptWith Short (length π)) (sym l.2) (record {
+          apt = literals_apt (length π) 0 s.0 (let e = sized s.0 s.1 in omega arith) (words s.0 s.1) l.0 k;
+          word = literals_short 0 s.0 (shorts s.0 s.1) l.0 k;
+        })
+  ]
+
+  -- so have the constraints of each leaf
+  leaf_short : (l : Leaf Box) → In l (leaves π n nss) → FineWith Short (length π) l.cell
+  leaf_short l i =
+      (walk_leaf word_rules (FineWith Short (length π)) (AptWith Short (length π)) (words_law Short (length π)) ds ts all_short start (record { fine = start_fine (length π); words = start_words Short (length π) }) l i).fine
+
+  -- the canonical system of the name of each child of a bare leaf can be grown over a basis that the name covers
+  pub bare_growable : (basis : List (List ℕ)) (first : Sign) (l : Leaf Box) → Covers basis n.avoid → In l (leaves π n nss) → l.ending ≡ bare → Each (IsGrowable basis) (child_names first l.cell)
+  bare_growable basis first l covers i e m im =
+      let f = leaf_short l i in
+      let r = child_name_In first l.cell m im in
+      let here : r.0 < length π = omega (arith, r.1, f.fine.count) in
+      let fit = f.fine.fit r.0 here in
+      let tidy = f.fine.tidy r.0 here in
+      let words_short = f.words r.0 here in
+      let done = (settled π n nss w own sized words l i (subst IsFair (sym e) tt)).done e in
+      record {
+        avoid = subst AreShort (sym r.2) (each_all Short (child_of l.cell r.0).avoid words_short.avoid);
+        require = subst AreShort (sym r.3) (each_all Short (child_of l.cell r.0).require words_short.require);
+        top = subst (λ ws. top ws ≡ ws) (sym r.3) (top_same (child_of l.cell r.0).require fit.long tidy.maximal);
+        covers = λ b j.
+            let a = covers b j in
+            let o = cell_avoids π n.avoid n.require a.0 l.cell r.0 own.avoids a.1 done here in
+            (o.0, subst (In o.0) (sym r.2) o.1, contains_trans b a.0 o.0 a.2 o.2);
+      }

@@ -1,0 +1,33 @@
+-- The next line of a text, and those after it.
+use Rattle.std.proofs.Common.{◌≡◌, ℕ, List, [], ◌∷◌, drop, None, sym, ap, subst, ◌∙◌, arith}
+use Rattle.std.specs.List.{position}
+use Rattle.av_text.specs.Lines.{script_lines, is_line_feed}
+use Rattle.av_text.proofs.Cuts.{lines_none, lines_last}
+use Rattle.av_check.specs.Reading.{FirstIs, Passes}
+
+-- a line before others
+pub first_before : (ls : List (List ℕ)) (l : List ℕ) (rest : List (List ℕ)) → ls ≡ l ∷ rest → ls ≡ l ∷ drop 1 ls
+first_before ls l rest e = e ∙ ap (λ (r : List (List ℕ)). l ∷ r) (sym (ap (drop 1) e))
+
+-- without a line feed there is one line at most
+pub lines_over : (bs : List ℕ) → position is_line_feed bs ≡ None → [] ≡ drop 1 (script_lines bs)
+lines_over [] e = sym (ap (drop 1) lines_none)
+lines_over (x ∷ xs) e = sym (ap (drop 1) (lines_last (x ∷ xs) (omega arith) e))
+
+-- what is known of the next line
+pub next_is : (P : List ℕ → Type 0) (ls : List (List ℕ)) (l : List ℕ) (rest : List (List ℕ)) → ls ≡ l ∷ rest → P l → FirstIs P ls
+next_is P ls l rest e p = subst (FirstIs P) (sym e) p
+
+pub next_was : (P : List ℕ → Type 0) (ls : List (List ℕ)) (l : List ℕ) (rest : List (List ℕ)) → ls ≡ l ∷ rest → FirstIs P ls → P l
+next_was P ls l rest e f = subst (FirstIs P) e f
+
+pub none_next : (P : List ℕ → Type 0) (ls : List (List ℕ)) → ls ≡ [] → FirstIs P ls → ⊥
+none_next P ls e f = subst (FirstIs P) e f
+
+-- it is passed, or isn't
+pub passes_one : (P : List ℕ → Type 0) (old new : List (List ℕ)) → FirstIs P old → new ≡ drop 1 old → Passes P old new
+passes_one P [] new f e = absurd f
+passes_one P (l ∷ ls) new f e = record { passed = l ∷ []; cut = ap (λ (r : List (List ℕ)). l ∷ r) (sym e); is = f }
+
+pub passes_none : (P : List ℕ → Type 0) (old new : List (List ℕ)) → (FirstIs P old → ⊥) → new ≡ old → Passes P old new
+passes_none P old new n e = record { passed = []; cut = sym e; is = subst (λ (l : List (List ℕ)). FirstIs P l → ⊥) (sym e) n }

@@ -1,0 +1,7 @@
+use Rattle.av_print.specs.Text.{word_text}
+use Rattle.av_check.specs.Claims.{IsPattern}
+use Rattle.av_check.proofs.Loops.{HaveRead}
+use Rattle.av_check.proofs.reading.words.each_word.Given as goal
+
+abbrev pub invariant-loop-token : goal.invariant-loop-token
+invariant-loop-token l = HaveRead IsPattern word_text l.words l.tokens l.token-index
