@@ -19,4 +19,8 @@ pub mod Summaries
 pub mod ClassAnswers
 pub mod Wholes
 pub mod Systems
+pub mod CheckEnds
+pub mod AboutClaims
+pub mod Told
+pub mod ClaimWholes
 mod Worked

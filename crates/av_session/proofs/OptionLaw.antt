@@ -1,8 +1,8 @@
 -- What clap finds in words without `--` sets the options that the definition says.
-use Rattle.std.proofs.Common.{◌≡◌, ◌⊎◌, ℕ, List, [], ◌∷◌, ◌++◌, Bool, true, false, ◌||◌, ◌&&◌, Option, Some, None, is_some, Err, map, codes, refl, sym, subst, ap, ◌∙◌, inl, inr}
+use Rattle.std.proofs.Common.{◌≡◌, ℕ, List, [], ◌∷◌, ◌++◌, Bool, true, false, ◌||◌, ◌&&◌, Option, Some, None, is_some, Err, map, codes, refl, sym, subst, ap, ◌∙◌, inl, inr}
 use Rattle.std.specs.Prelude.{fold}
 use Rattle.std.specs.List.{list_any}
-use Rattle.std.specs.Option.{option_map, option_and_then}
+use Rattle.std.specs.Option.{option_and_then}
 use Rattle.clap.specs.Walk.{Text, Row, Held, Walk, Waiting, idle, option, has_row, first_of, used, walked, settled, settled_rows, finished, with_default}
 use Rattle.clap.specs.Walk.{rows_of}
 use Rattle.clap.specs.Values.{kind_of}
@@ -21,19 +21,24 @@ use Rattle.av_text.specs.Lines.{is_filled}
 use Rattle.av_text.specs.Numerals.{number_in, is_numeral, is_digits}
 use Rattle.av_session.specs.declared.options.TheConstants.{LEAST_MAX_SIMPLE, GREATEST_MAX_SIMPLE, GREATEST_MAX_SIZE}
 use Rattle.av_session.specs.declared.options.Chosen.{Chosen}
-use Rattle.av_session.specs.Command.{Texts, permspec, is_dashes, chosen_by, texts_found}
+use Rattle.av_session.specs.Command.{Texts, permspec, is_dashes, is_given, chosen_by, texts_found}
 use Rattle.av_session.specs.declared.options.WordsError.{WordsError}
 use Rattle.av_session.specs.declared.options.WordsError.TheVariants as error
-use Rattle.av_session.specs.Options.{cut, set_once, choose, choose_all, nothing_chosen, with_defaults, options, GivesOptions}
-use Rattle.av_session.proofs.FirstOptions.{one_word_first, two_words_first, name_alone_first}
-use Rattle.av_session.proofs.OptionWords.{Which, simple, size, demo, name, dashed, before, after, begins, IsStrange, named, strange_chooses, IsCut, cut_of}
-use Rattle.av_session.proofs.OptionRows.{rule, text, given, Holds, holds_given}
-use Rattle.av_session.proofs.OptionTexts.{given_chooses, again_chooses}
-use Rattle.av_session.proofs.OptionSteps.{shape, rules, Pending, at, IsFault, settles, step_joined, fault_joined, repeated, step_apart, fault_apart, first_fault, strange_refused, unsettled_refused, IsTaken, step_value, waiting_unsettled}
+use Rattle.av_session.specs.Options.{cut, set_once, choose, is_check, choose_check, choose_all, nothing_chosen, set_by, options, GivesOptions}
+use Rattle.av_session.proofs.FirstOptions.{one_word_first, check_first, two_words_first, name_alone_first}
+use Rattle.av_session.proofs.OptionWords.{Which, simple, size, demo, name, dashed, before, after, begins, IsStrange, IsNamed, named, with_value, strange_chooses, IsCut, cut_of}
+use Rattle.av_session.proofs.OptionRows.{rule, check_rule, text, given, Holds, holds_given, holds_check, holds_default}
+use Rattle.av_session.proofs.OptionTexts.{given_chooses, again_chooses, check_chooses, check_again}
+use Rattle.av_session.proofs.OptionSteps.{shape, rules, Pending, at, IsFault, settles, step_joined, fault_joined, repeated, step_apart, fault_apart, step_check, fault_check, value_refused, first_fault, strange_refused, unsettled_refused, IsTaken, step_value, waiting_unsettled}
 
 -- the texts that rows hold
 abbrev pub texts_in : List Row → Texts
-texts_in rows = record { max_simple = first_of (codes "max-simple") rows; max_size = first_of (codes "max-size") rows; demo = first_of (codes "demo") rows }
+texts_in rows = record {
+  max_simple = first_of (codes "max-simple") rows;
+  max_size = first_of (codes "max-size") rows;
+  demo = first_of (codes "demo") rows;
+  check = is_given (first_of (codes "check") rows);
+}
 
 -- what rows set, where there is no fault
 abbrev pub reading : Kinds → List Row → Option Chosen
@@ -72,9 +77,31 @@ end_unsettled rows p waiting f = fault_reads _ _ (first_fault _ _ f)
 
 no_defaults : (rows : List Row) → defaults_fault rows rules ≡ []
 unfolding clap_on_literals
-no_defaults rows = by (has_row (codes "max-simple") rows) (has_row (codes "max-size") rows) (has_row (codes "demo") rows) refl refl refl
+no_defaults rows = by (has_row (codes "max-simple") rows) (has_row (codes "max-size") rows) (has_row (codes "demo") rows) (has_row (codes "check") rows) refl refl refl refl
   where
-    by : (a b c : Bool) → has_row (codes "max-simple") rows ≡ a → has_row (codes "max-size") rows ≡ b → has_row (codes "demo") rows ≡ c → defaults_fault rows rules ≡ []
+    by : (a b c d : Bool) → has_row (codes "max-simple") rows ≡ a → has_row (codes "max-size") rows ≡ b → has_row (codes "demo") rows ≡ c → has_row (codes "check") rows ≡ d → defaults_fault rows rules ≡ []
+    by true true true true e f g h = rw (e, f, g, h) refl
+    by true true true false e f g h = rw (e, f, g, h) refl
+    by true true false true e f g h = rw (e, f, g, h) refl
+    by true true false false e f g h = rw (e, f, g, h) refl
+    by true false true true e f g h = rw (e, f, g, h) refl
+    by true false true false e f g h = rw (e, f, g, h) refl
+    by true false false true e f g h = rw (e, f, g, h) refl
+    by true false false false e f g h = rw (e, f, g, h) refl
+    by false true true true e f g h = rw (e, f, g, h) refl
+    by false true true false e f g h = rw (e, f, g, h) refl
+    by false true false true e f g h = rw (e, f, g, h) refl
+    by false true false false e f g h = rw (e, f, g, h) refl
+    by false false true true e f g h = rw (e, f, g, h) refl
+    by false false true false e f g h = rw (e, f, g, h) refl
+    by false false false true e f g h = rw (e, f, g, h) refl
+    by false false false false e f g h = rw (e, f, g, h) refl
+
+-- of the options only the one that takes no value has a default
+one_added : (rows : List Row) → fold with_default rows rules ≡ with_default rows check_rule
+one_added rows = by (has_row (codes "max-simple") rows) (has_row (codes "max-size") rows) (has_row (codes "demo") rows) refl refl refl
+  where
+    by : (a b c : Bool) → has_row (codes "max-simple") rows ≡ a → has_row (codes "max-size") rows ≡ b → has_row (codes "demo") rows ≡ c → fold with_default rows rules ≡ with_default rows check_rule
     by true true true e f g = rw (e, f, g) refl
     by true true false e f g = rw (e, f, g) refl
     by true false true e f g = rw (e, f, g) refl
@@ -84,25 +111,12 @@ no_defaults rows = by (has_row (codes "max-simple") rows) (has_row (codes "max-s
     by false false true e f g = rw (e, f, g) refl
     by false false false e f g = rw (e, f, g) refl
 
-none_added : (rows : List Row) → fold with_default rows rules ≡ rows
-none_added rows = by (has_row (codes "max-simple") rows) (has_row (codes "max-size") rows) (has_row (codes "demo") rows) refl refl refl
-  where
-    by : (a b c : Bool) → has_row (codes "max-simple") rows ≡ a → has_row (codes "max-size") rows ≡ b → has_row (codes "demo") rows ≡ c → fold with_default rows rules ≡ rows
-    by true true true e f g = rw (e, f, g) refl
-    by true true false e f g = rw (e, f, g) refl
-    by true false true e f g = rw (e, f, g) refl
-    by true false false e f g = rw (e, f, g) refl
-    by false true true e f g = rw (e, f, g) refl
-    by false true false e f g = rw (e, f, g) refl
-    by false false true e f g = rw (e, f, g) refl
-    by false false false e f g = rw (e, f, g) refl
-
-holds_texts : (rows : List Row) (t : Texts) → Holds rows t → texts_in rows ≡ t
-holds_texts rows t h = rw ((h simple).0, (h size).0, (h demo).0) refl
+holds_texts : (rows : List Row) (t : Texts) → Holds rows t → texts_in (with_default rows check_rule) ≡ t
+holds_texts rows t h = let d = holds_default rows t h in rw (d.0 simple, d.0 size, d.0 demo, d.1) refl
 
 end_settled : (rows : List Row) (p : Pending) (t : Texts) → settles rows p ≡ [] → Holds (settled_rows rules p rows) t → said (at rows p idle) [] ≡ chosen_by t
 unfolding said walk_fault
-end_settled rows p t e h = rw (e, no_defaults (settled_rows rules p rows), none_added (settled_rows rules p rows)) (ap chosen_by (holds_texts (settled_rows rules p rows) t h))
+end_settled rows p t e h = rw (e, no_defaults (settled_rows rules p rows), one_added (settled_rows rules p rows)) (ap chosen_by (holds_texts (settled_rows rules p rows) t h))
 
 first_false : (a b : Bool) → (a || b) ≡ false → a ≡ false
 first_false true b e = e
@@ -149,10 +163,13 @@ same_then f g (Some c) h = h c
 strange_word : (word : Text) (words : List Text) → same word (codes "--") ≡ false → IsStrange (before word) → IsRead (word ∷ words)
 strange_word word words d s rows p t e h = turn_refused (at rows p idle) word words (strange_refused rows p word d s) ∙ sym (none_then (choose_all (word ∷ words)) (chosen_by t) (λ c. by words (cut_of word) c))
   where
+    unchecked : before word ≡ word → is_check word ≡ false
+    unchecked e = (subst IsStrange e s).3
+
     by : (words : List Text) → IsCut word → (c : Chosen) → choose_all (word ∷ words) c ≡ None
     by words (inr k) c = sym (one_word_first word (before word) (after word) words c k.0) ∙ ap (option_and_then (choose_all words)) (strange_chooses (before word) (after word) c s)
-    by [] (inl k) c = sym (name_alone_first word c k.0)
-    by (next ∷ words) (inl k) c = sym (two_words_first word next words c k.0) ∙ ap (option_and_then (choose_all words)) (strange_chooses word next c (subst IsStrange k.1 s))
+    by [] (inl k) c = sym (name_alone_first word c k.0 (unchecked k.1))
+    by (next ∷ words) (inl k) c = sym (two_words_first word next words c k.0 (unchecked k.1)) ∙ ap (option_and_then (choose_all words)) (strange_chooses word next c (subst IsStrange k.1 s))
 
 -- an option with its value in the same word
 joined_word : (k : Which) (v : Text) (words : List Text) → cut (dashed k ++ 61 ∷ v) ≡ Some (dashed k, v) → IsRead words → IsRead ((dashed k ++ 61 ∷ v) ∷ words)
@@ -166,12 +183,12 @@ joined_word k v words cuts ih rows p t e h = by (text k t) refl ∙ same_then _ 
 
     by : (o : Option Text) → text k t ≡ o → said (at rows p idle) ((dashed k ++ 61 ∷ v) ∷ words) ≡ option_and_then (λ c. option_and_then (choose_all words) (choose c (dashed k) v)) (chosen_by t)
     by None f =
-        turn_taken (at rows p idle) (at (used (rule k) (v ∷ []) held) None idle) (dashed k ++ 61 ∷ v) words (faults false ((h k).1 ∙ ap is_some f) ∙ ap (λ s. or_else (or_else s []) []) e) (step_joined k rows p v)
+        turn_taken (at rows p idle) (at (used (rule k) (v ∷ []) held) None idle) (dashed k ++ 61 ∷ v) words (faults false ((h.0 k).1 ∙ ap is_some f) ∙ ap (λ s. or_else (or_else s []) []) e) (step_joined k rows p v)
         ∙ ih (used (rule k) (v ∷ []) held) None (given k v t) refl (holds_given k v held t f h)
         ∙ ap (option_and_then (choose_all words)) (given_chooses k v t f)
         ∙ then_then (choose_all words) (λ c. choose c (dashed k) v) (chosen_by t)
     by (Some w) f =
-        turn_refused (at rows p idle) (dashed k ++ 61 ∷ v) words (subst IsFault (sym (faults true ((h k).1 ∙ ap is_some f) ∙ ap (λ s. or_else (or_else s (or_else (repeated true) [])) []) e)) tt)
+        turn_refused (at rows p idle) (dashed k ++ 61 ∷ v) words (subst IsFault (sym (faults true ((h.0 k).1 ∙ ap is_some f) ∙ ap (λ s. or_else (or_else s (or_else (repeated true) [])) []) e)) tt)
         ∙ sym (then_none (choose_all words) (λ c. choose c (dashed k) v) (chosen_by t) (again_chooses k v w t f))
 
 -- an option that waits for its value, which is used at the next word
@@ -195,11 +212,11 @@ waiting_value k v words ih d rows t h = by (text k t) refl
 
     by : (o : Option Text) → text k t ≡ o → said (at rows (Some (name k, v ∷ [])) idle) words ≡ option_and_then (λ c. option_and_then (choose_all words) (choose c (dashed k) v)) (chosen_by t)
     by None f =
-        ih rows (Some (name k, v ∷ [])) (given k v t) (settled_by k false ((h k).1 ∙ ap is_some f)) (subst (λ rs. Holds rs (given k v t)) (sym (used_by k)) (holds_given k v rows t f h))
+        ih rows (Some (name k, v ∷ [])) (given k v t) (settled_by k false ((h.0 k).1 ∙ ap is_some f)) (subst (λ rs. Holds rs (given k v t)) (sym (used_by k)) (holds_given k v rows t f h))
         ∙ ap (option_and_then (choose_all words)) (given_chooses k v t f)
         ∙ then_then (choose_all words) (λ c. choose c (dashed k) v) (chosen_by t)
     by (Some w) f =
-        refused words d (subst IsFault (sym (settled_by k true ((h k).1 ∙ ap is_some f))) tt)
+        refused words d (subst IsFault (sym (settled_by k true ((h.0 k).1 ∙ ap is_some f))) tt)
         ∙ sym (then_none (choose_all words) (λ c. choose c (dashed k) v) (chosen_by t) (again_chooses k v w t f))
 
 -- what begins with a hyphen is no value
@@ -225,16 +242,21 @@ no_number k ys c = by k
     by size = rw (unset 1 GREATEST_MAX_SIZE c.max_size ys) refl
     by demo = rw (unset 0 MAX_DEMO c.demo ys) refl
 
+-- the option that takes no value is none that takes one
+no_choice : (v : Text) (c : Chosen) → choose c (codes "--check") v ≡ None
+unfolding choose
+no_choice v c = refl
+
 -- an option without its value, and the next word
 apart_word : (k : Which) (words : List Text) → HasNoDashes words → cut (dashed k) ≡ None → ((next : Text) (rest : List Text) → words ≡ next ∷ rest → IsRead rest) → IsRead (dashed k ∷ words)
 apart_word k [] d cuts ih rows p t e h =
     turn_taken (at rows p idle) (at (settled_rows rules p rows) (Some (name k, [])) (option (name k))) (dashed k) [] (fault_apart k rows p ∙ ap (λ s. or_else s []) e) (step_apart k rows p)
     ∙ end_unsettled (settled_rows rules p rows) (Some (name k, [])) (option (name k)) (waiting_unsettled k (settled_rows rules p rows))
-    ∙ sym (none_then (choose_all (dashed k ∷ [])) (chosen_by t) (λ c. sym (name_alone_first (dashed k) c cuts)))
+    ∙ sym (none_then (choose_all (dashed k ∷ [])) (chosen_by t) (λ c. sym (name_alone_first (dashed k) c cuts (with_value k))))
 apart_word k (next ∷ rest) d cuts ih rows p t e h =
     turn_taken (at rows p idle) waits (dashed k) (next ∷ rest) (fault_apart k rows p ∙ ap (λ s. or_else s []) e) (step_apart k rows p)
     ∙ by (step_value k held next (begins next) (first_false (is_dashes next) (list_any is_dashes rest) d))
-    ∙ same_then _ _ (chosen_by t) (λ c. two_words_first (dashed k) next rest c cuts)
+    ∙ same_then _ _ (chosen_by t) (λ c. two_words_first (dashed k) next rest c cuts (with_value k))
   where
     held : List Row
     held = settled_rows rules p rows
@@ -246,12 +268,42 @@ apart_word k (next ∷ rest) d cuts ih rows p t e h =
     by (inl f) = turn_refused waits next rest f.0 ∙ sym (then_none (choose_all rest) (λ c. choose c (dashed k) next) (chosen_by t) (none_then (λ c. choose c (dashed k) next) (chosen_by t) (λ c. ap (choose c (dashed k)) f.1.1 ∙ no_number k f.1.0 c)))
     by (inr f) = turn_taken waits (at held (Some (name k, next ∷ [])) idle) next rest f.0 f.1 ∙ waiting_value k next rest (ih next rest refl) (second_false (is_dashes next) (list_any is_dashes rest) d) held t h
 
+-- the option that takes no value
+check_word : (words : List Text) → IsRead words → IsRead (codes "--check" ∷ words)
+check_word words ih rows p t e h = by t.check refl ∙ same_then _ _ (chosen_by t) (λ c. check_first words c)
+  where
+    held : List Row
+    held = settled_rows rules p rows
+
+    faults : (b : Bool) → has_row (codes "check") held ≡ b → turn_fault shape [] (at rows p idle) (codes "--check") ≡ or_else (or_else (settles rows p) (or_else (repeated b) [])) []
+    faults b f = fault_check rows p ∙ ap (λ c. or_else (or_else (settles rows p) (or_else (repeated c) [])) []) f
+
+    by : (b : Bool) → t.check ≡ b → said (at rows p idle) (codes "--check" ∷ words) ≡ option_and_then (λ c. option_and_then (choose_all words) (choose_check c)) (chosen_by t)
+    by false f =
+        turn_taken (at rows p idle) (at (used check_rule [] held) None idle) (codes "--check") words (faults false (h.2 ∙ f) ∙ ap (λ s. or_else (or_else s []) []) e) (step_check rows p)
+        ∙ ih (used check_rule [] held) None (record t { check = true }) refl (holds_check held t f h)
+        ∙ ap (option_and_then (choose_all words)) (check_chooses t f)
+        ∙ then_then (choose_all words) choose_check (chosen_by t)
+    by true f =
+        turn_refused (at rows p idle) (codes "--check") words (subst IsFault (sym (faults true (h.2 ∙ f) ∙ ap (λ s. or_else (or_else s (or_else (repeated true) [])) []) e)) tt)
+        ∙ sym (then_none (choose_all words) choose_check (chosen_by t) (check_again t f))
+
+-- with a value it is no option
+check_value : (v : Text) (words : List Text) → cut (codes "--check" ++ 61 ∷ v) ≡ Some (codes "--check", v) → IsRead ((codes "--check" ++ 61 ∷ v) ∷ words)
+check_value v words cuts rows p t e h =
+    turn_refused (at rows p idle) (codes "--check" ++ 61 ∷ v) words (value_refused rows p v)
+    ∙ sym (none_then (choose_all ((codes "--check" ++ 61 ∷ v) ∷ words)) (chosen_by t) (λ c. sym (one_word_first (codes "--check" ++ 61 ∷ v) (codes "--check") v words c cuts) ∙ ap (option_and_then (choose_all words)) (no_choice v c)))
+
 -- one word before others
 one_more_word : (word : Text) (words : List Text) → HasNoDashes (word ∷ words) → IsRead words → ((next : Text) (rest : List Text) → words ≡ next ∷ rest → IsRead rest) → IsRead (word ∷ words)
 one_more_word word words d ih later = by (named (before word)) (cut_of word)
   where
-    by : ((k : Which) × (before word ≡ dashed k)) ⊎ IsStrange (before word) → IsCut word → IsRead (word ∷ words)
-    by (inr s) c = strange_word word words (first_false (is_dashes word) (list_any is_dashes words) d) s
+    by : IsNamed (before word) → IsCut word → IsRead (word ∷ words)
+    by (inr (inl n)) (inl c) = subst (λ w. IsRead (w ∷ words)) (sym n ∙ c.1) (check_word words ih)
+    by (inr (inl n)) (inr c) =
+        let e : codes "--check" ++ 61 ∷ after word ≡ word = sym (c.1 ∙ ap (λ b. b ++ 61 ∷ after word) n) in
+        subst (λ w. IsRead (w ∷ words)) e (check_value (after word) words (ap cut e ∙ c.0 ∙ ap (λ b. Some (b, after word)) n))
+    by (inr (inr s)) c = strange_word word words (first_false (is_dashes word) (list_any is_dashes words) d) s
     by (inl n) (inl c) =
         let e : dashed n.0 ≡ word = sym n.1 ∙ c.1 in
         subst (λ w. IsRead (w ∷ words)) e (apart_word n.0 words (second_false (is_dashes word) (list_any is_dashes words) d) (ap cut e ∙ c.0) later)
@@ -271,12 +323,16 @@ no_subcommand : (stop : Option (Text × List Text)) → (entered (built permspec
 no_subcommand None = (refl, refl)
 no_subcommand (Some p) = (refl, refl)
 
+-- no option was given
+abbrev no_texts : Texts
+no_texts = record { max_simple = None; max_size = None; demo = None; check = false }
+
 -- what clap finds sets what the words choose
 pub options_found : (words : List Text) → HasNoDashes words → reading (fault_of permspec words) (matches_of permspec words) ≡ choose_all words nothing_chosen
 unfolding said
 options_found words d =
     ap (λ k. reading k (matches_of permspec words)) (ap (λ o. faults (is_some o) (entered_fault (built permspec) stop)) (no_subcommand stop).0 ∙ ap (faults false) (no_subcommand stop).1)
-    ∙ all_read words d [] None (record { max_simple = None; max_size = None; demo = None }) refl none_held
+    ∙ all_read words d [] None no_texts refl none_held
   where
     end : Walk
     end = fold (walked rules []) (at [] None idle) words
@@ -287,25 +343,28 @@ options_found words d =
     faults : Bool → Kinds → Kinds
     faults b below = or_else (walk_fault shape [] (at [] None idle) words) (or_else below (or_else (settle_fault rules false end.held) (or_else (defaults_fault (settled rules end.held).rows rules) (check_fault shape (finished rules end.held) b))))
 
-    none_held : Holds [] (record { max_simple = None; max_size = None; demo = None })
-    none_held simple = (refl, refl)
-    none_held size = (refl, refl)
-    none_held demo = (refl, refl)
+    none_held_by : (k : Which) → (first_of (name k) [] ≡ text k no_texts) × (has_row (name k) [] ≡ is_some (text k no_texts))
+    none_held_by simple = (refl, refl)
+    none_held_by size = (refl, refl)
+    none_held_by demo = (refl, refl)
+
+    none_held : Holds [] no_texts
+    none_held = (none_held_by, refl, refl)
 
 -- so words that clap takes set what its values say
-pub taken : (words : List Text) (found : Found) → HasNoDashes words → fault_of permspec words ≡ [] → rows_of found ≡ matches_of permspec words → options words ≡ option_map with_defaults (chosen_by (texts_found found))
+pub taken : (words : List Text) (found : Found) → HasNoDashes words → fault_of permspec words ≡ [] → rows_of found ≡ matches_of permspec words → options words ≡ option_and_then set_by (chosen_by (texts_found found))
 unfolding options
-taken words found d e f = ap (option_map with_defaults) (sym (options_found words d) ∙ ap (λ k. reading k (matches_of permspec words)) e ∙ ap (λ rs. chosen_by (texts_in rs)) (sym f) ∙ ap chosen_by same_texts)
+taken words found d e f = ap (option_and_then set_by) (sym (options_found words d) ∙ ap (λ k. reading k (matches_of permspec words)) e ∙ ap (λ rs. chosen_by (texts_in rs)) (sym f) ∙ ap chosen_by same_texts)
   where
     same_texts : texts_in (rows_of found) ≡ texts_found found
-    same_texts = rw (first_value-rows found (codes "max-simple"), first_value-rows found (codes "max-size"), first_value-rows found (codes "demo")) refl
+    same_texts = rw (first_value-rows found (codes "max-simple"), first_value-rows found (codes "max-size"), first_value-rows found (codes "demo"), first_value-rows found (codes "check")) refl
 
 -- and words that it refuses set nothing
 pub refused : (words : List Text) (cause : WordsError) (e : Error) → HasNoDashes words → (cause ≡ error.Words → kind_of e ≡ kind.OutOfMemory → ⊥) → HasKind (fault_of permspec words) e → GivesOptions (Err cause) (options words)
 unfolding options
 refused words error.Memory e d f h = tt
 refused words error.Words e d f (inl h) = absurd (f refl h)
-refused words error.Words e d f (inr h) = ap (option_map with_defaults) (sym (options_found words d) ∙ fault_reads (fault_of permspec words) (matches_of permspec words) (among (fault_of permspec words) h))
+refused words error.Words e d f (inr h) = ap (option_and_then set_by) (sym (options_found words d) ∙ fault_reads (fault_of permspec words) (matches_of permspec words) (among (fault_of permspec words) h))
   where
     among : (k : Kinds) → IsAmong (kind_of e) k → IsFault k
     among [] h = h
@@ -315,30 +374,33 @@ refused words error.Words e d f (inr h) = ap (option_map with_defaults) (sym (op
 dashes_value : (word : Text) (c : Chosen) → choose c word (codes "--") ≡ None
 dashes_value word c = by (named word)
   where
-    by : ((k : Which) × (word ≡ dashed k)) ⊎ IsStrange word → choose c word (codes "--") ≡ None
+    by : IsNamed word → choose c word (codes "--") ≡ None
     by (inl n) = ap (λ w. choose c w (codes "--")) n.1 ∙ no_number n.0 (codes "-") c
-    by (inr s) = strange_chooses word (codes "--") c s
+    by (inr (inl n)) = ap (λ w. choose c w (codes "--")) n ∙ no_choice (codes "--") c
+    by (inr (inr s)) = strange_chooses word (codes "--") c s
 
 abbrev IsNothing : List Text → Type 0
 IsNothing words = (c : Chosen) → choose_all words c ≡ None
 
 dashes_first : (words : List Text) → IsNothing (codes "--" ∷ words)
 unfolding cut
-dashes_first [] c = sym (name_alone_first (codes "--") c refl)
-dashes_first (next ∷ rest) c = sym (two_words_first (codes "--") next rest c refl) ∙ ap (option_and_then (choose_all rest)) (strange_chooses (codes "--") next c (refl, refl, refl))
+dashes_first [] c = sym (name_alone_first (codes "--") c refl refl)
+dashes_first (next ∷ rest) c = sym (two_words_first (codes "--") next rest c refl refl) ∙ ap (option_and_then (choose_all rest)) (strange_chooses (codes "--") next c (refl, refl, refl, refl))
 
 after_none : (words : List Text) (o : Option Chosen) → IsNothing words → option_and_then (choose_all words) o ≡ None
 after_none words o h = none_then (choose_all words) o h
 
 dashes_later : (word next : Text) (rest : List Text) → IsNothing (next ∷ rest) → (is_dashes next ≡ false → IsNothing rest) → IsNothing (word ∷ next ∷ rest)
-dashes_later word next rest h g c = by (cut_of word) (is_dashes next) refl
+dashes_later word next rest h g c = by (cut_of word) (is_check word) (is_dashes next) refl refl
   where
-    by : IsCut word → (b : Bool) → is_dashes next ≡ b → choose_all (word ∷ next ∷ rest) c ≡ None
-    by (inr k) b e = sym (one_word_first word (before word) (after word) (next ∷ rest) c k.0) ∙ after_none (next ∷ rest) (choose c (before word) (after word)) h
-    by (inl k) true e =
-        let f : next ≡ codes "--" = (bytes_eq-Decides next (codes "--")).0 e in
-        sym (two_words_first word next rest c k.0) ∙ ap (option_and_then (choose_all rest)) (ap (choose c word) f ∙ dashes_value word c)
-    by (inl k) false e = sym (two_words_first word next rest c k.0) ∙ after_none rest (choose c word next) (g e)
+    by : IsCut word → (a b : Bool) → is_check word ≡ a → is_dashes next ≡ b → choose_all (word ∷ next ∷ rest) c ≡ None
+    by (inr k) a b f e = sym (one_word_first word (before word) (after word) (next ∷ rest) c k.0) ∙ after_none (next ∷ rest) (choose c (before word) (after word)) h
+    by (inl k) true b f e =
+        subst (λ w. choose_all (w ∷ next ∷ rest) c ≡ None) (sym ((bytes_eq-Decides word (codes "--check")).0 f)) (sym (check_first (next ∷ rest) c) ∙ after_none (next ∷ rest) (choose_check c) h)
+    by (inl k) false true f e =
+        let d : next ≡ codes "--" = (bytes_eq-Decides next (codes "--")).0 e in
+        sym (two_words_first word next rest c k.0 f) ∙ ap (option_and_then (choose_all rest)) (ap (choose c word) d ∙ dashes_value word c)
+    by (inl k) false false f e = sym (two_words_first word next rest c k.0 f) ∙ after_none rest (choose c word next) (g e)
 
 dashes_nothing : (words : List Text) → list_any is_dashes words ≡ true → IsNothing words
 dashes_nothing [] e = absurd (let f : false ≡ true = e in cc)
@@ -362,4 +424,4 @@ bytes_any f (w ∷ words) = ap (λ b. is_dashes (f w) || b) (bytes_any f words)
 
 pub dashes_refused : (words : List Text) → list_any is_dashes words ≡ true → options words ≡ None
 unfolding options
-dashes_refused words e = ap (option_map with_defaults) (dashes_nothing words e nothing_chosen)
+dashes_refused words e = ap (option_and_then set_by) (dashes_nothing words e nothing_chosen)

@@ -1,5 +1,5 @@
 -- What clap makes of the words, one after another.
-use Rattle.std.proofs.Common.{◌≡◌, ◌⊎◌, ℕ, List, [], ◌∷◌, ◌++◌, Bool, true, false, ◌&&◌, ◌==◌, if◌then◌else◌, Option, Some, None, IfSome, codes, refl, sym, subst, ◌∙◌, inl, inr}
+use Rattle.std.proofs.Common.{◌≡◌, ◌⊎◌, ℕ, List, [], ◌∷◌, ◌++◌, Bool, true, false, ◌&&◌, ◌==◌, if◌then◌else◌, Option, Some, None, codes, refl, sym, subst, ◌∙◌, inl, inr}
 use Rattle.std.specs.Prelude.{slice_get}
 use Rattle.std.specs.Str.{bytes_eq, chars}
 use Rattle.std.proofs.lemmas.Slice.Eq.{bytes_eq-Decides}
@@ -13,7 +13,7 @@ use Rattle.clap.proofs.OnLiterals.{clap_on_literals}
 use Rattle.av_perm.specs.Lists.{same}
 use Rattle.av_session.specs.Command.{permspec}
 use Rattle.av_session.proofs.OptionWords.{Which, simple, size, demo, name, dashed, before, before_long, IsStrange, Begins, begins, empty, plain, hyphen, short, hyphens, long}
-use Rattle.av_session.proofs.OptionRows.{rule}
+use Rattle.av_session.proofs.OptionRows.{rule, check_rule}
 
 -- the command as clap builds it
 abbrev pub shape : Shape
@@ -73,6 +73,21 @@ fault_apart simple rows p = refl
 fault_apart size rows p = refl
 fault_apart demo rows p = refl
 
+-- the option that takes no value is used at once
+pub step_check : (rows : List Row) (p : Pending) → walked rules [] (at rows p idle) (codes "--check") ≡ at (used check_rule [] (settled_rows rules p rows)) None idle
+unfolding clap_on_literals
+step_check rows p = refl
+
+pub fault_check : (rows : List Row) (p : Pending)
+    → turn_fault shape [] (at rows p idle) (codes "--check") ≡ or_else (or_else (settles rows p) (or_else (repeated (has_row (codes "check") (settled_rows rules p rows))) [])) []
+unfolding clap_on_literals
+fault_check rows p = refl
+
+-- with a value it is refused
+pub value_refused : (rows : List Row) (p : Pending) (v : Text) → IsFault (turn_fault shape [] (at rows p idle) (codes "--check" ++ 61 ∷ v))
+unfolding clap_on_literals
+value_refused rows p v = tt
+
 -- a long name that no option has is unknown
 same_turned : (s t : Text) → same s t ≡ false → bytes_eq t s ≡ false
 same_turned s t e = by (bytes_eq t s) refl
@@ -81,15 +96,17 @@ same_turned s t e = by (bytes_eq t s) refl
     by false f = refl
     by true f = let g : same s t ≡ true = (bytes_eq-Decides s t).1 (sym ((bytes_eq-Decides t s).0 f)) in absurd (let h : true ≡ false = sym g ∙ e in cc)
 
-unknown : (n : Text) → bytes_eq (codes "max-simple") n ≡ false → bytes_eq (codes "max-size") n ≡ false → bytes_eq (codes "demo") n ≡ false → arg_by_long rules n ≡ None
+unknown : (n : Text) → bytes_eq (codes "max-simple") n ≡ false → bytes_eq (codes "max-size") n ≡ false → bytes_eq (codes "demo") n ≡ false → bytes_eq (codes "check") n ≡ false → arg_by_long rules n ≡ None
 unfolding clap_on_literals
-unknown n e f g = rw (e, f, g) refl
+unknown n e f g h = rw (e, f, g, h) refl
 
 unknown_long : (x : ℕ) (xs : Text) → IsStrange (before (45 ∷ 45 ∷ x ∷ xs)) → arg_by_long rules (before (x ∷ xs)) ≡ None
 unknown_long x xs s = by (subst IsStrange (before_long x xs) s)
   where
     by : IsStrange (45 ∷ 45 ∷ before (x ∷ xs)) → arg_by_long rules (before (x ∷ xs)) ≡ None
-    by t = unknown (before (x ∷ xs)) (same_turned (before (x ∷ xs)) (codes "max-simple") t.0) (same_turned (before (x ∷ xs)) (codes "max-size") t.1) (same_turned (before (x ∷ xs)) (codes "demo") t.2)
+    by t =
+        unknown (before (x ∷ xs)) (same_turned (before (x ∷ xs)) (codes "max-simple") t.0) (same_turned (before (x ∷ xs)) (codes "max-size") t.1) (same_turned (before (x ∷ xs)) (codes "demo") t.2)
+        (same_turned (before (x ∷ xs)) (codes "check") t.3)
 
 -- of a fault and what comes after it, there is a fault
 pub first_fault : (k l : Kinds) → IsFault k → IsFault (or_else k l)
@@ -117,22 +134,16 @@ strange_refused rows p word d s = no_long_refused rows p word (begins word) d (�
     by : (x : ℕ) (xs : Text) → word ≡ 45 ∷ 45 ∷ x ∷ xs → IsFault (turn_fault shape [] (at rows p idle) word)
     by x xs e = subst (λ w. IsFault (turn_fault shape [] (at rows p idle) w)) (sym e) (rw (unknown_long x xs (subst (λ w. IsStrange (before w)) e s)) tt)
 
--- a long name finds an option with a value, or none
-takes : (n : Text) → IfSome (arg_by_long rules n) (λ r. takes_values r ≡ true)
-unfolding clap_on_literals
-takes n = by (bytes_eq (codes "max-simple") n) (bytes_eq (codes "max-size") n) (bytes_eq (codes "demo") n) refl refl refl
-  where
-    by : (a b c : Bool) → bytes_eq (codes "max-simple") n ≡ a → bytes_eq (codes "max-size") n ≡ b → bytes_eq (codes "demo") n ≡ c → IfSome (arg_by_long rules n) (λ r. takes_values r ≡ true)
-    by true b c e f g = rw e refl
-    by false true c e f g = rw (e, f) refl
-    by false false true e f g = rw (e, f, g) refl
-    by false false false e f g = rw (e, f, g) tt
-
 -- before a long name the option before it is used
-long_unsettled : (a : Option Rule) (v : Option Text) (h : Held) → IfSome a (λ r. takes_values r ≡ true) → IsFault (settle_fault rules false h) → IsFault (long_fault rules false a v h)
-long_unsettled None v h t f = tt
-long_unsettled (Some r) (Some v) h t f = rw t (first_fault (settle_fault rules false h) _ f)
-long_unsettled (Some r) None h t f = rw t f
+long_unsettled : (a : Option Rule) (v : Option Text) (h : Held) → IsFault (settle_fault rules false h) → IsFault (long_fault rules false a v h)
+long_unsettled None v h f = tt
+long_unsettled (Some r) v h f = by v (takes_values r) refl
+  where
+    by : (v : Option Text) (b : Bool) → takes_values r ≡ b → IsFault (long_fault rules false (Some r) v h)
+    by (Some v) true e = rw e (first_fault (settle_fault rules false h) _ f)
+    by None true e = rw e f
+    by (Some v) false e = rw e tt
+    by None false e = rw e (first_fault (settle_fault rules false h) _ f)
 
 -- so where that fails, every word is refused
 pub unsettled_refused : (rows : List Row) (p : Pending) (word : Text) → IsFault (settles rows p) → same word (codes "--") ≡ false → IsFault (turn_fault shape [] (at rows p idle) word)
@@ -140,7 +151,7 @@ unsettled_refused rows p word f d = no_long_refused rows p word (begins word) d 
   where
     by : (x : ℕ) (xs : Text) → word ≡ 45 ∷ 45 ∷ x ∷ xs → IsFault (turn_fault shape [] (at rows p idle) word)
     by x xs e = subst (λ w. IsFault (turn_fault shape [] (at rows p idle) w)) (sym e)
-        (first_fault _ _ (long_unsettled (arg_by_long rules (before (x ∷ xs))) (name_and_value (x ∷ xs)).1 (holding rows p) (takes (before (x ∷ xs))) f))
+        (first_fault _ _ (long_unsettled (arg_by_long rules (before (x ∷ xs))) (name_and_value (x ∷ xs)).1 (holding rows p) f))
 
 -- where an option waits for its value, each word is it, or it is refused and is no numeral
 abbrev waiting : Which → List Row → Walk
@@ -189,4 +200,4 @@ step_value k rows _ hyphen d = inr (hyphen_value k rows)
 step_value k rows _ (short z zs e) d = short_value k rows z zs e (slice_get (chars (z ∷ zs)) 0) refl
 step_value k rows _ hyphens d = absurd (let f : true ≡ false = d in cc)
 step_value k rows _ (long x xs) d =
-    inl (first_fault _ _ (long_unsettled (arg_by_long rules (before (x ∷ xs))) (name_and_value (x ∷ xs)).1 (holding rows (Some (name k, []))) (takes (before (x ∷ xs))) (waiting_unsettled k rows)), (45 ∷ x ∷ xs, refl))
+    inl (first_fault _ _ (long_unsettled (arg_by_long rules (before (x ∷ xs))) (name_and_value (x ∷ xs)).1 (holding rows (Some (name k, []))) (waiting_unsettled k rows)), (45 ∷ x ∷ xs, refl))

@@ -6,7 +6,7 @@ use Rattle.std.proofs.lemmas.Slice.Eq.{bytes_eq-Decides}
 use Rattle.clap.specs.Walk.{Text}
 use Rattle.av_perm.specs.Lists.{same}
 use Rattle.av_session.specs.declared.options.Chosen.{Chosen}
-use Rattle.av_session.specs.Options.{is_equals, cut, choose}
+use Rattle.av_session.specs.Options.{is_equals, cut, choose, is_check}
 
 -- a word by how it begins: with no hyphen, with one, with two
 pub data Begins : Text → Type 0 where
@@ -98,7 +98,7 @@ cut_of word = by (list_any is_equals word) refl
     by true e = inr (rw (place_within word, e) refl, parted word e)
     by false e = inl (rw (place_within word, e) refl, whole word e)
 
--- the options
+-- the options that take a value
 pub data Which : Type 0 where
   simple : Which
   size : Which
@@ -116,16 +116,27 @@ dashed demo = codes "--demo"
 
 -- a text is no option's name
 abbrev pub IsStrange : Text → Type 0
-IsStrange text = (same text (codes "--max-simple") ≡ false) × (same text (codes "--max-size") ≡ false) × (same text (codes "--demo") ≡ false)
+IsStrange text = (same text (codes "--max-simple") ≡ false) × (same text (codes "--max-size") ≡ false) × (same text (codes "--demo") ≡ false) × (same text (codes "--check") ≡ false)
 
-pub named : (text : Text) → ((k : Which) × (text ≡ dashed k)) ⊎ IsStrange text
-named text = by (same text (codes "--max-simple")) (same text (codes "--max-size")) (same text (codes "--demo")) refl refl refl
+-- a text is the name of an option that takes a value, or that of the one that takes none, or no option's
+abbrev pub IsNamed : Text → Type 0
+IsNamed text = ((k : Which) × (text ≡ dashed k)) ⊎ ((text ≡ codes "--check") ⊎ IsStrange text)
+
+pub named : (text : Text) → IsNamed text
+named text = by (same text (codes "--max-simple")) (same text (codes "--max-size")) (same text (codes "--demo")) (same text (codes "--check")) refl refl refl refl
   where
-    by : (a b c : Bool) → same text (codes "--max-simple") ≡ a → same text (codes "--max-size") ≡ b → same text (codes "--demo") ≡ c → ((k : Which) × (text ≡ dashed k)) ⊎ IsStrange text
-    by true b c e f g = inl (simple, (bytes_eq-Decides text (codes "--max-simple")).0 e)
-    by false true c e f g = inl (size, (bytes_eq-Decides text (codes "--max-size")).0 f)
-    by false false true e f g = inl (demo, (bytes_eq-Decides text (codes "--demo")).0 g)
-    by false false false e f g = inr (e, f, g)
+    by : (a b c d : Bool) → same text (codes "--max-simple") ≡ a → same text (codes "--max-size") ≡ b → same text (codes "--demo") ≡ c → same text (codes "--check") ≡ d → IsNamed text
+    by true b c d e f g h = inl (simple, (bytes_eq-Decides text (codes "--max-simple")).0 e)
+    by false true c d e f g h = inl (size, (bytes_eq-Decides text (codes "--max-size")).0 f)
+    by false false true d e f g h = inl (demo, (bytes_eq-Decides text (codes "--demo")).0 g)
+    by false false false true e f g h = inr (inl ((bytes_eq-Decides text (codes "--check")).0 h))
+    by false false false false e f g h = inr (inr (e, f, g, h))
+
+-- the name of an option with a value isn't that of the one without
+pub with_value : (k : Which) → is_check (dashed k) ≡ false
+with_value simple = refl
+with_value size = refl
+with_value demo = refl
 
 pub strange_chooses : (text value : Text) (chosen : Chosen) → IsStrange text → choose chosen text value ≡ None
 unfolding choose

@@ -178,7 +178,7 @@ settled_in_format subject gap format limit roots S settled is made =
 -- the system of a run
 pub writes_system : (words : List (List ℕ)) → WritesSystem words
 unfolding due text_due script_text settled_text
-writes_system words bytes o script class accepted said is = record {
+writes_system words bytes o script class accepted unchecked said is = record {
   text = rw (accepted, said, is) refl;
   searched = made.subject;
   gap = (settled_same (minimal (basis_of script)) (basis_of script) same o.max_simple class.gap).0 made.settled;

@@ -10,12 +10,12 @@ use Rattle.av_session.specs.declared.reading.TheConstants.{MOST_READ}
 use Rattle.av_session.specs.declared.options.Options.{Options}
 use Rattle.av_session.specs.declared.status.Status.{Status}
 use Rattle.av_session.specs.declared.status.Status.TheVariants as status
-use Rattle.av_session.specs.Taken.{TakesAll}
+use Rattle.av_session.specs.Taken.{TakesAll, TakesUpTo}
 use Rattle.av_session.specs.Solved.{solved_script, status_of}
 use Rattle.av_session.specs.Due.{text_due, text_of}
 use Rattle.av_session.specs.Status.{HoldsText, FitsText, FitsRead, FitsScript}
 use Rattle.av_session.specs.Options.{options}
-use Rattle.av_session.specs.Runs.{demo_asked, script_bytes, due, Fits, Fits_of, ReadsWhole, IsComplete}
+use Rattle.av_session.specs.Runs.{demo_asked, script_by, script_bytes, most_by, most_read, due, Fits, Fits_of, ReadsWhole, IsComplete}
 
 too_long : (bytes : List ℕ) → MAX_SCRIPT_BYTES < length bytes → read bytes ≡ Err (record { line = 0; kind = TooLong })
 unfolding read
@@ -52,14 +52,14 @@ module _ (o : Options) (old new held held' : Option (List ℕ)) (taken : List �
       by (Some all) None u = absurd u.0
       by (Some all) (Some left) u = rw (← read_same all taken left u.0 u.1 u.2) h
 
-  pub whole_read : FitsText s o taken → ReadsWhole s old new
+  pub whole_read : FitsText s o taken → ReadsWhole MOST_READ s old new
   whole_read h = by s h
     where
       done : (r : Result Script Fault) → read taken ≡ r → FitsRead status.Done o r → IsAtEnd new
       done (Ok script) e f = script_end taken new script e t.2
       done (Err fault) e f = absurd f
 
-      by : (s : Status) → FitsText s o taken → ReadsWhole s old new
+      by : (s : Status) → FitsText s o taken → ReadsWhole MOST_READ s old new
       by status.Done f = ((taken, t), done (read taken) refl f)
       by status.Memory f = tt
       by status.Words f = tt
@@ -95,14 +95,23 @@ asked_some words o A e h = subst (λ d. IfSome d (λ _. A)) (asked words o e) h
 
 -- the same with the words of the command line, which set these options
 pub due_text : (words : List (List ℕ)) (o : Options) (s : Status) (left held held' : Option (List ℕ)) → Some o ≡ options words
-    → IfSome (script_bytes o.demo left) (λ bytes. HoldsText s held held' (text_due o bytes)) → IfSome (script_bytes (demo_asked words) left) (λ bytes. HoldsText s held held' (due words bytes))
-unfolding due
-due_text words o s left held held' e h = rw (← asked words o e, ← e) h
+    → IfSome (script_by (Some o) left) (λ bytes. HoldsText s held held' (text_due o bytes)) → IfSome (script_bytes words left) (λ bytes. HoldsText s held held' (due words bytes))
+unfolding due script_bytes
+due_text words o s left held held' e h = rw (← e) h
 
 pub due_fits : (words : List (List ℕ)) (o : Options) (s : Status) (left : Option (List ℕ)) → Some o ≡ options words
-    → IfSome (script_bytes o.demo left) (λ bytes. FitsText s o bytes) → IfSome (script_bytes (demo_asked words) left) (λ bytes. Fits s words bytes)
-unfolding Fits
-due_fits words o s left e h = rw (← asked words o e, ← e) h
+    → IfSome (script_by (Some o) left) (λ bytes. FitsText s o bytes) → IfSome (script_bytes words left) (λ bytes. Fits s words bytes)
+unfolding Fits script_bytes
+due_fits words o s left e h = rw (← e) h
+
+-- and the number of bytes that are read at most
+pub most_taken : (words : List (List ℕ)) (o : Options) (old new : Option (List ℕ)) → Some o ≡ options words → TakesUpTo (most_by (Some o)) old new → TakesUpTo (most_read words) old new
+unfolding most_read
+most_taken words o old new e h = rw (← e) h
+
+pub most_whole : (words : List (List ℕ)) (o : Options) (s : Status) (old new : Option (List ℕ)) → Some o ≡ options words → ReadsWhole (most_by (Some o)) s old new → ReadsWhole (most_read words) s old new
+unfolding most_read
+most_whole words o s old new e h = rw (← e) h
 
 -- words that aren't accepted ask for nothing of the text
 pub no_options_fits : (words : List (List ℕ)) (s : Status) (old : Option (List ℕ)) → None ≡ options words → IfSome old (λ bytes. Fits s words bytes)

@@ -11,3 +11,5 @@ pub mod Status
 pub mod Classes
 pub mod Solved
 pub mod Runs
+pub mod Checked
+pub mod Checks

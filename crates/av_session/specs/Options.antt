@@ -1,5 +1,5 @@
 -- The words of the command line.
-use Rattle.std.specs.Prelude.{◌≡◌, ℕ, ◌+◌, ◌≤◌, Bool, ◌==◌, List, [], ◌∷◌, take, drop, if◌then◌else◌, Option, Some, None, IfSome, unwrap_or, Result, Ok, Err, codes}
+use Rattle.std.specs.Prelude.{◌≡◌, ℕ, ◌+◌, ◌≤◌, Bool, true, false, not, ◌&&◌, ◌||◌, ◌==◌, List, [], ◌∷◌, take, drop, if◌then◌else◌, Option, Some, None, is_some, IfSome, unwrap_or, Result, Ok, Err, codes}
 use Rattle.std.specs.List.{position}
 use Rattle.std.specs.Option.{option_map, option_and_then}
 use Rattle.std.specs.Result.{result_ok}
@@ -47,25 +47,41 @@ choose chosen name value =
     else (if same name (codes "--max-size") then choose_max_size chosen value
     else (if same name (codes "--demo") then choose_demo chosen value else None))
 
--- what is chosen after all these words: an option is a word with `=`, or else a word that is its name and a second one
--- that is its value
+-- the one option that takes no value
+abbrev pub is_check : List ℕ → Bool
+is_check word = same word (codes "--check")
+
+-- what is chosen after it
+unfoldable pub choose_check : Chosen → Option Chosen
+choose_check chosen = if chosen.check then None else Some (record chosen { check = true })
+
+-- what is chosen after all these words: an option is a word with `=`, or `--check`, or else a word that is its name and a
+-- second one that is its value
 unfoldable pub choose_all : List (List ℕ) → Chosen → Option Chosen
 choose_all [] = λ chosen. Some chosen
 choose_all (word ∷ []) = λ chosen.
-    elim (cut word) [ Some named ↦ choose chosen named.0 named.1 | None ↦ None ]
+    elim (cut word) [
+      | Some named ↦ choose chosen named.0 named.1
+      | None ↦ if is_check word then choose_check chosen else None
+    ]
 choose_all (word ∷ next ∷ words) = λ chosen.
     elim (cut word) [
       | Some named ↦ option_and_then (choose_all (next ∷ words)) (choose chosen named.0 named.1)
-      | None ↦ option_and_then (choose_all words) (choose chosen word next)
+      | None ↦ if is_check word then option_and_then (choose_all (next ∷ words)) (choose_check chosen)
+          else option_and_then (choose_all words) (choose chosen word next)
     ]
 
 -- no option is set
 abbrev pub nothing_chosen : Chosen
-nothing_chosen = record { max_simple = None; max_size = None; demo = None }
+nothing_chosen = record { max_simple = None; max_size = None; demo = None; check = false }
 
 -- the options where no word sets one
 abbrev pub default_options : Options
-default_options = record { max_simple = DEFAULT_MAX_SIMPLE; max_size = DEFAULT_MAX_SIZE; demo = None }
+default_options = record { max_simple = DEFAULT_MAX_SIMPLE; max_size = DEFAULT_MAX_SIZE; demo = None; check = false }
+
+-- the options chosen may stand together: `--check` stands neither with `--demo` nor with `--max-size`
+abbrev pub stand_together : Chosen → Bool
+stand_together chosen = not (chosen.check && (is_some chosen.demo || is_some chosen.max_size))
 
 -- what was chosen, and the defaults of the others
 abbrev pub with_defaults : Chosen → Options
@@ -73,11 +89,16 @@ with_defaults chosen = record {
   max_simple = unwrap_or chosen.max_simple default_options.max_simple;
   max_size = unwrap_or chosen.max_size default_options.max_size;
   demo = chosen.demo;
+  check = chosen.check;
 }
+
+-- the options that were chosen, where they may stand together
+abbrev pub set_by : Chosen → Option Options
+set_by chosen = if stand_together chosen then Some (with_defaults chosen) else None
 
 -- the options that the words of the command line set, in any order, each at most once; no other words are accepted
 unfoldable pub options : List (List ℕ) → Option Options
-options words = option_map with_defaults (choose_all words nothing_chosen)
+options words = option_and_then set_by (choose_all words nothing_chosen)
 
 -- the values chosen are in their ranges
 pub record AreInRanges (chosen : Chosen) : Type 0 where
@@ -100,3 +121,4 @@ pub record IsAllowed (options : Options) : Type 0 where
   pub some : 1 ≤ options.max_size
   pub few : options.max_size ≤ GREATEST_MAX_SIZE
   pub demo : IfSome options.demo (λ g. g ≤ MAX_DEMO)
+  pub alone : options.check ≡ true → options.demo ≡ None

@@ -1,5 +1,5 @@
 -- What a run is about: the text due of the words and the bytes, what it says of the class, and what its system generates.
-use Rattle.std.specs.Prelude.{◌≡◌, ℕ, suc, ◌^◌, ◌<◌, ◌≤◌, ◌↔◌, ◌⊎◌, List, [], length, map, flat_map, find, slice_get, Option, Some, None, Ok}
+use Rattle.std.specs.Prelude.{◌≡◌, ℕ, suc, ◌^◌, ◌<◌, ◌≤◌, ◌↔◌, ◌⊎◌, false, if◌then◌else◌, List, [], length, map, flat_map, find, slice_get, Option, Some, None, Ok}
 use Rattle.std.specs.Io.KnownBytes.{IsAtEnd}
 use Rattle.std.specs.Option.{option_and_then, option_map}
 use Rattle.std.specs.Ordering.{nat_cmp}
@@ -33,7 +33,7 @@ use Rattle.av_text.specs.Ranges.{united, required}
 use Rattle.av_session.specs.declared.options.Options.{Options}
 use Rattle.av_session.specs.Classes.{Class, required_of, in_format}
 use Rattle.av_session.specs.declared.solving.Solved.TheVariants.{Settled}
-use Rattle.av_session.specs.declared.reading.TheConstants.{MOST_READ}
+use Rattle.av_session.specs.declared.reading.TheConstants.{MOST_READ, MOST_CLAIMED}
 use Rattle.av_session.specs.declared.status.Status.{Status}
 use Rattle.av_session.specs.declared.status.Status.TheVariants as status
 use Rattle.av_session.specs.Options.{options}
@@ -52,9 +52,26 @@ demo_asked words = option_and_then (λ o. o.demo) (options words)
 
 -- the bytes that are read as a script, where they are known: those of the demo script of a number, or where there is none
 -- those that the source has
-abbrev pub script_bytes : Option ℕ → Option (List ℕ) → Option (List ℕ)
-script_bytes (Some g) left = Some (demo_script g)
-script_bytes None left = left
+abbrev pub bytes_by : Option ℕ → Option (List ℕ) → Option (List ℕ)
+bytes_by (Some g) left = Some (demo_script g)
+bytes_by None left = left
+
+-- where the words of the command line set these options, or aren't accepted: with `--check` no bytes are read as a script
+abbrev pub script_by : Option Options → Option (List ℕ) → Option (List ℕ)
+script_by None left = left
+script_by (Some options) left = if options.check then None else bytes_by options.demo left
+
+unfoldable pub script_bytes : List (List ℕ) → Option (List ℕ) → Option (List ℕ)
+script_bytes words left = script_by (options words) left
+
+-- how many bytes are read at most: as far as a script may reach and one byte more, or with `--check` as far as a claim may reach
+-- and one byte more
+abbrev pub most_by : Option Options → ℕ
+most_by None = MOST_READ
+most_by (Some options) = if options.check then MOST_CLAIMED else MOST_READ
+
+unfoldable pub most_read : List (List ℕ) → ℕ
+most_read words = most_by (options words)
 
 -- the text due where the words of the command line set these options, or aren't accepted
 abbrev pub due_of : Option Options → List ℕ → List ℕ
@@ -73,17 +90,17 @@ Fits_of s (Some options) bytes = FitsText s options bytes
 unfoldable pub Fits : Status → List (List ℕ) → List ℕ → Type 0
 Fits s words bytes = Fits_of s (options words) bytes
 
--- the source was read to its end, or as far as a script may reach and one byte more
-abbrev pub IsReadWhole : Option (List ℕ) → Option (List ℕ) → Type 0
-IsReadWhole old new = (bytes : List ℕ) × TakesAll MOST_READ old new bytes
+-- the source was read to its end, or so many bytes of it
+abbrev pub IsReadWhole : ℕ → Option (List ℕ) → Option (List ℕ) → Type 0
+IsReadWhole most old new = (bytes : List ℕ) × TakesAll most old new bytes
 
 -- what was read, by the status
-abbrev pub ReadsWhole : Status → Option (List ℕ) → Option (List ℕ) → Type 0
-ReadsWhole status.Done old new = IsReadWhole old new × IsAtEnd new
-ReadsWhole status.Refused old new = IsReadWhole old new
-ReadsWhole status.Unsettled old new = IsReadWhole old new
-ReadsWhole status.TooLarge old new = IsReadWhole old new
-ReadsWhole _ old new = Unit {0}
+abbrev pub ReadsWhole : ℕ → Status → Option (List ℕ) → Option (List ℕ) → Type 0
+ReadsWhole most status.Done old new = IsReadWhole most old new × IsAtEnd new
+ReadsWhole most status.Refused old new = IsReadWhole most old new
+ReadsWhole most status.Unsettled old new = IsReadWhole most old new
+ReadsWhole most status.TooLarge old new = IsReadWhole most old new
+ReadsWhole most _ old new = Unit {0}
 
 -- a permutation avoids each word of a list, where there is one; where there is none, no permutation is meant
 abbrev pub AvoidsLine : Option (List (List ℕ)) → List ℕ → Type 0
@@ -253,10 +270,10 @@ pub record HasSystem (words : List (List ℕ)) (bytes : List ℕ) (o : Options) 
   -- so the answers are those of the class
   pub answers : HasAnswers (basis_of script) (required script) class
 
--- so wherever the words are accepted, and the bytes are a script of a settled class
+-- so wherever the words are accepted and don't ask for a check, and the bytes are a script of a settled class
 abbrev pub WritesSystem : List (List ℕ) → Type 0
 WritesSystem words =
-    (bytes : List ℕ) (o : Options) (script : Script) (class : Class) → options words ≡ Some o → read bytes ≡ Ok script
+    (bytes : List ℕ) (o : Options) (script : Script) (class : Class) → options words ≡ Some o → o.check ≡ false → read bytes ≡ Ok script
     → solved_script o script ≡ Settled class → HasSystem words bytes o script class
 
 -- accepted words, a script of a settled class, and counts of faults that neither rise nor stand at their end leave two

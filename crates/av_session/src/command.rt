@@ -5,7 +5,7 @@ ghost use Rattle.clap.specs.Matches.{found_of};
 ghost use Rattle.clap.specs.Simple.{app_of, matches_of};
 ghost use Rattle.clap.specs.Faults.{fault_of};
 ghost use Rattle.clap.specs.Kinds.{FailsBy};
-ghost use Rattle.av_session.specs.Command.{permspec, bare, option_rule};
+ghost use Rattle.av_session.specs.Command.{permspec, bare, option_rule, flag_rule};
 
 use clap::{Arg, ArgAction, ArgMatches, Command, Error};
 use std::alloc::{AllocError, Global};
@@ -16,6 +16,14 @@ fn option<'a>(alloc: Global, name: &'a str) -> Arg<'a>
     ensures alone { result.global ≡ false }
 {
     Arg::new(alloc, name).long(name).action(ArgAction::Set)
+}
+
+/// An option with no value.
+fn flag<'a>(alloc: Global, name: &'a str) -> Arg<'a>
+    ensures rule { rule_of result ≡ flag_rule name.entry.now }
+    ensures alone { result.global ≡ false }
+{
+    Arg::new(alloc, name).long(name).action(ArgAction::SetTrue)
 }
 
 /// The command with no argument and without the flags that clap adds.
@@ -35,10 +43,12 @@ fn command<'a>(alloc: Global) -> Result<Command<'a>, AllocError>
     let simple = option(alloc, "max-simple");
     let size = option(alloc, "max-size");
     let demo = option(alloc, "demo");
+    let check = flag(alloc, "check");
     let one = bare_command(alloc).arg(simple)?;
     let two = one.arg(size)?;
     let three = two.arg(demo)?;
-    Ok(three)
+    let four = three.arg(check)?;
+    Ok(four)
 }
 
 /// What clap finds in the words.

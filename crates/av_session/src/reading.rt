@@ -4,6 +4,7 @@ ghost use Rattle.std.specs.Io.KnownBytes.{Consumes, IsAtEnd};
 ghost use Rattle.av_io.specs.Causes.{Rose};
 ghost use Rattle.av_session.specs.Taken.{TakesAll, TakesUpTo};
 
+use av_check::MAX_CLAIM_BYTES;
 use av_io::Source;
 use av_text::MAX_SCRIPT_BYTES;
 use std::alloc::Global;
@@ -15,8 +16,11 @@ pub enum ReadError {
     Failed,
 }
 
-/// The most bytes that are read: one more than the longest script has.
+/// The most bytes that are read of a script: one more than the longest has.
 pub const MOST_READ: usize = MAX_SCRIPT_BYTES + 1;
+
+/// The most bytes that are read of a claim: one more than the longest has.
+pub const MOST_CLAIMED: usize = MAX_CLAIM_BYTES + 1;
 
 /// How many bytes are asked for at once.
 const CHUNK: usize = 4096;
@@ -43,17 +47,17 @@ fn read_some<S: Source>(
     }
 }
 
-/// The bytes of a source up to its end, or the first `MOST_READ` where there are more.
-pub fn read_all<S: Source>(alloc: Global, source: &mut S) -> Result<Vec<u8>, ReadError>
-    ensures taken { IfOk result (λ bytes. TakesAll MOST_READ (S.left source.old) (S.left source.new) bytes.items) }
-    ensures took { TakesUpTo MOST_READ (S.left source.old) (S.left source.new) }
+/// The bytes of a source up to its end, or the first of them, as many as this, where there are more.
+pub fn read_all<S: Source>(alloc: Global, source: &mut S, most: usize) -> Result<Vec<u8>, ReadError>
+    ensures taken { IfOk result (λ bytes. TakesAll most (S.left source.old) (S.left source.new) bytes.items) }
+    ensures took { TakesUpTo most (S.left source.old) (S.left source.new) }
     ensures later { S.faults source.old ≤ S.faults source.new }
     ensures failed { IsErrOf result ReadError.Failed → Rose (S.faults source.old) (S.faults source.new) }
 {
     let mut bytes = Vec::new(alloc);
     let mut buffer = [0u8; CHUNK];
-    'reads: while bytes.len() < MOST_READ {
-        let room = (MOST_READ - bytes.len()).min(CHUNK);
+    'reads: while bytes.len() < most {
+        let room = (most - bytes.len()).min(CHUNK);
         let count = read_some(source, &mut buffer[..room], &mut bytes)?;
         if count == 0 {
             return Ok(bytes);

@@ -59,11 +59,11 @@ fn united(alloc: Global, script: &Script) -> Result<Option<United>, Memory>
     }
 }
 
-/// The maximal required words of a script but for the word 1, where it has a line of them.
-fn required(alloc: Global, script: &Script) -> Result<Option<Words>, Memory>
-    ensures { IfOk result (λ require. require ≡ option_map top script.now.require) }
+/// The maximal words of a line of required words but for the word 1, where there is such a line.
+pub fn reduced(alloc: Global, require: &Option<Words>) -> Result<Option<Words>, Memory>
+    ensures { IfOk result (λ reduced. reduced ≡ option_map top require.now) }
 {
-    match &script.require {
+    match require {
         Some(words) => Ok(Some(maximal(alloc, words)?)),
         None => Ok(None),
     }
@@ -87,7 +87,7 @@ fn put_script<K: Sink>(
 {
     let basis = basis(alloc, script)?;
     let lists = united(alloc, script)?;
-    let require = required(alloc, script)?;
+    let require = reduced(alloc, &script.require)?;
     let solved = solve(alloc, options, lists, &basis, require, script.format)?;
     put_class(alloc, sink, options, &solved, &script.queries)?;
     Ok(solved.status())
@@ -111,8 +111,8 @@ fn answer_script<K: Sink>(alloc: Global, sink: &mut K, options: &Options, script
     }
 }
 
-/// Answers a text that is no script.
-fn refuse<K: Sink>(alloc: Global, sink: &mut K, line: u32, kind: Kind) -> Status
+/// Answers a text that is no script, or no claim.
+pub fn refuse<K: Sink>(alloc: Global, sink: &mut K, line: u32, kind: Kind) -> Status
     ensures text { HoldsText result (K.held sink.old) (K.held sink.new) (fault_text (record { line = line; kind = kind })) }
     ensures fits { FitsFault result }
     ensures answer { ComesAfterReading result }

@@ -118,7 +118,7 @@ impl Solved {
 }
 
 /// The simple words below the gap, of a basis that has this one.
-fn roots_below(alloc: Global, found: &Found, gap: usize) -> Result<Words, Memory>
+pub fn roots_below(alloc: Global, found: &Found, gap: usize) -> Result<Words, Memory>
     requires { gap_of found.now ≡ Some gap }
     ensures value { IfOk result (λ roots. roots ≡ simples_below found.now.basis gap) }
     ensures roots { IfOk result AreRoots }

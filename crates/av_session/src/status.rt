@@ -13,7 +13,7 @@ pub enum Status {
     ReadFault = 3,
     /// The sink failed. A prefix of the text due was written.
     WriteFault = 4,
-    /// The source is no script. The line of its first fault was written.
+    /// The source is no script, or with `--check` no claim. The line of its first fault was written.
     Refused = 5,
     /// The class isn't settled up to the limit. The header and the limit were written.
     Unsettled = 6,

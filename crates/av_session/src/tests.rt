@@ -528,7 +528,7 @@ fn a_distribution_at_the_greatest_length(rt: HostRuntime) -> Result<(), Fail> {
 
 #[test]
 fn other_words_are_refused(rt: HostRuntime) -> Result<(), Fail> {
-    let refused: [&[&str]; 24] = [
+    let refused: [&[&str]; 39] = [
         &["--max-simple", "11"],
         &["--max-simple=4"],
         &["--max-simple=08"],
@@ -548,6 +548,21 @@ fn other_words_are_refused(rt: HostRuntime) -> Result<(), Fail> {
         &["--dem", "1"],
         &["--"],
         &["--", "--max-simple=8"],
+        &["--check", "--"],
+        &["--check", "--check"],
+        &["--check="],
+        &["--check=1"],
+        &["--check=true"],
+        &["--check", "1"],
+        &["--check", "--demo", "3"],
+        &["--demo=3", "--check"],
+        &["--max-size", "5", "--check"],
+        &["--check", "--max-size=5"],
+        &["--demo", "--check"],
+        &["--max-simple", "--check"],
+        &["--chec"],
+        &["--checks"],
+        &["-check"],
         &["-h"],
         &["--help"],
         &["--version"],
@@ -582,8 +597,31 @@ fn the_options_are_accepted(rt: HostRuntime) -> Result<(), Fail> {
         max_simple: 6,
         max_size: 14,
         demo: None,
+        check: false,
     };
     assert!(rt; read_words(rt.alloc(), &words) == Ok(wanted));
+    Ok(())
+}
+
+#[test]
+fn a_check_takes_no_value(rt: HostRuntime) -> Result<(), Fail> {
+    let accepted: [&[&str]; 3] = [
+        &["--check", "--max-simple", "6"],
+        &["--max-simple=6", "--check"],
+        &["--max-simple", "6", "--check"],
+    ];
+    let wanted = Options {
+        max_simple: 6,
+        max_size: 20_000,
+        demo: None,
+        check: true,
+    };
+    for texts in &accepted {
+        let words = command_line(rt.alloc(), texts)?;
+        assert!(rt; read_words(rt.alloc(), &words) == Ok(wanted), "{texts:?}");
+    }
+    let words = command_line(rt.alloc(), &["--check"])?;
+    assert!(rt; read_words(rt.alloc(), &words).is_ok_and(|options| options.check));
     Ok(())
 }
 

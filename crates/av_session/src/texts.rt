@@ -44,7 +44,7 @@ pub fn put_fault<K: Sink>(
 
 /// Writes the text of a class whose basis has no gap within the limit.
 #[tactic(auto, unfolding(crate::specs::Due::unsettled_text))]
-fn put_unsettled<K: Sink>(alloc: Global, sink: &mut K, subject: &Subject) -> Result<(), Stop>
+pub fn put_unsettled<K: Sink>(alloc: Global, sink: &mut K, subject: &Subject) -> Result<(), Stop>
     ensures whole { OnOk result (Appends (K.held sink.old) (K.held sink.new) (unsettled_text subject.now)) }
     ensures part { AppendsPart (K.held sink.old) (K.held sink.new) (unsettled_text subject.now) }
     ensures later { K.faults sink.old ≤ K.faults sink.new }
@@ -62,7 +62,7 @@ fn put_unsettled<K: Sink>(alloc: Global, sink: &mut K, subject: &Subject) -> Res
 
 /// Writes the header of a class with this gap.
 #[tactic(auto, unfolding(crate::specs::Due::settled_header))]
-fn put_settled_header<K: Sink>(
+pub fn put_settled_header<K: Sink>(
     alloc: Global,
     sink: &mut K,
     subject: &Subject,

@@ -2,7 +2,11 @@
 use Rattle.std.proofs.Common.{sym}
 use Rattle.av_session.proofs.Abouts.{about, cases}
 use Rattle.av_session.proofs.Systems.{writes_system}
-use Rattle.av_session.proofs.Wholes.{asked_none, asked_some, due_text, due_fits, no_options_fits, memory_fits_all, complete_by}
+use Rattle.av_session.proofs.Wholes.{asked_none, asked_some, due_text, due_fits, most_taken, most_whole, no_options_fits, memory_fits_all, complete_by}
+use Rattle.av_session.proofs.AllowedOptions.{options_allowed}
+use Rattle.av_session.proofs.Told.{has_told}
+use Rattle.av_session.proofs.AboutClaims.{about_claim}
+use Rattle.av_session.proofs.ClaimWholes.{told_text_due, told_fits_due, no_options_told, memory_fits_told, memory_holds_told, check_complete_by}
 use Rattle.av_session.proofs.top.run.Goals as goal
 
 pub returns-in-Ok-clause-fits : goal.returns-in-Ok-clause-fits
@@ -56,4 +60,48 @@ pub returns-in-Ok-clause-no_read_fault : goal.returns-in-Ok-clause-no_read_fault
 returns-in-Ok-clause-no_read_fault g c = asked_some _ c.in-Ok.options _ (sym c.in-Ok.ensures.said) c.run_with.ensures.no_read_fault
 
 pub returns-in-Ok-clause-input : goal.returns-in-Ok-clause-input
-returns-in-Ok-clause-input g c e = c.run_with.ensures.input (asked_none _ c.in-Ok.options (sym c.in-Ok.ensures.said) e)
+returns-in-Ok-clause-input g c e = most_whole _ c.in-Ok.options c.run_with.result _ _ (sym c.in-Ok.ensures.said) (c.run_with.ensures.input (asked_none _ c.in-Ok.options (sym c.in-Ok.ensures.said) e))
+
+pub returns-in-Ok-clause-took : goal.returns-in-Ok-clause-took
+returns-in-Ok-clause-took g c = most_taken _ c.in-Ok.options _ _ (sym c.in-Ok.ensures.said) c.run_with.ensures.took
+
+pub returns-in-Ok-clause-check_fits : goal.returns-in-Ok-clause-check_fits
+returns-in-Ok-clause-check_fits g c = told_fits_due _ c.in-Ok.options c.run_with.result _ (sym c.in-Ok.ensures.said) c.run_with.ensures.check_fits
+
+pub returns-in-Ok-clause-check_text : goal.returns-in-Ok-clause-check_text
+returns-in-Ok-clause-check_text g c = told_text_due _ c.in-Ok.options c.run_with.result _ _ _ (sym c.in-Ok.ensures.said) c.run_with.ensures.check_text
+
+pub returns-in-Ok-clause-check_complete : goal.returns-in-Ok-clause-check_complete
+returns-in-Ok-clause-check_complete g c =
+    check_complete_by c.run_with.result _ _ _ _ (λ e. absurd (c.run_with.ensures.not_words e)) c.run_with.ensures.read_fault c.run_with.ensures.write_fault
+    (told_fits_due _ c.in-Ok.options c.run_with.result _ (sym c.in-Ok.ensures.said) c.run_with.ensures.check_fits)
+
+pub returns-in-Ok-clause-told : goal.returns-in-Ok-clause-told
+returns-in-Ok-clause-told g c = has_told
+
+pub returns-in-Ok-clause-about_claim : goal.returns-in-Ok-clause-about_claim
+returns-in-Ok-clause-about_claim g c bytes o claim e is = about_claim o bytes claim (options_allowed _ o e) is
+
+pub returns-in-Err-Words-clause-check_fits : goal.returns-in-Err-Words-clause-check_fits
+returns-in-Err-Words-clause-check_fits g c = let e = rw c.in-Err-Words.field-0-is at c.in-Err-Words.ensures in no_options_told _ _ _ (sym e.said)
+
+pub returns-in-Err-Words-clause-check_text : goal.returns-in-Err-Words-clause-check_text
+returns-in-Err-Words-clause-check_text g c = let e = rw c.in-Err-Words.field-0-is at c.in-Err-Words.ensures in no_options_told _ _ _ (sym e.said)
+
+pub returns-in-Err-Words-clause-told : goal.returns-in-Err-Words-clause-told
+returns-in-Err-Words-clause-told g c = has_told
+
+pub returns-in-Err-Words-clause-about_claim : goal.returns-in-Err-Words-clause-about_claim
+returns-in-Err-Words-clause-about_claim g c bytes o claim e is = about_claim o bytes claim (options_allowed _ o e) is
+
+pub returns-in-Err-Memory-clause-check_fits : goal.returns-in-Err-Memory-clause-check_fits
+returns-in-Err-Memory-clause-check_fits g c = memory_fits_told _ _
+
+pub returns-in-Err-Memory-clause-check_text : goal.returns-in-Err-Memory-clause-check_text
+returns-in-Err-Memory-clause-check_text g c = memory_holds_told _ _ _
+
+pub returns-in-Err-Memory-clause-told : goal.returns-in-Err-Memory-clause-told
+returns-in-Err-Memory-clause-told g c = has_told
+
+pub returns-in-Err-Memory-clause-about_claim : goal.returns-in-Err-Memory-clause-about_claim
+returns-in-Err-Memory-clause-about_claim g c bytes o claim e is = about_claim o bytes claim (options_allowed _ o e) is
