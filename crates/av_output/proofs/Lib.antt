@@ -1,0 +1,4 @@
+pub mod LineBytes
+pub mod HeaderTexts
+pub mod PatternNames
+pub mod Outputs
