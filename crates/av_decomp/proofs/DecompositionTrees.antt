@@ -6,7 +6,7 @@ use Rattle.av_perm.specs.Relations.{at, IsWord, AreBlocks, block, inflate}
 use Rattle.av_perm.specs.Decompose.{Decomposes, IsRoot}
 use Rattle.av_perm.specs.Parts.{parts}
 use Rattle.av_perm.proofs.Inflations.{length_inflate, inflation_word}
-use Rattle.av_perm.proofs.OneDecomposition.{root_word}
+use Rattle.av_perm.proofs.RootWords.{root_word}
 use Rattle.av_perm.proofs.Parts.{parts_law}
 use Rattle.av_decomp.specs.RootTrees.{RootTrees, none, more, RootTree, point, joined, one_of}
 use Rattle.av_decomp.specs.Trees.{count, value_by, values, value, IsCanonicalRoot, IsCanonical, AreCanonical, IsTreeOf, tree_by, tree_up_to, dec}

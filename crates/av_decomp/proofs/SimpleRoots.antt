@@ -5,7 +5,7 @@ use Rattle.av_perm.specs.Members.{IsListOf}
 use Rattle.av_perm.specs.Relations.{at, IsOneToLength, IsInterval}
 use Rattle.av_perm.specs.Decompose.{Decomposes}
 use Rattle.av_perm.proofs.Membership.{In_at}
-use Rattle.av_perm.proofs.OneDecomposition.{block_interval}
+use Rattle.av_perm.proofs.BlockIntervals.{block_interval}
 use Rattle.av_interval.specs.declared.spans.Span.{Span}
 use Rattle.av_interval.specs.Intervals.{Tiles, places_of, IsProperInterval, IsMaximalInterval}
 use Rattle.av_interval.proofs.Windows.{window_only}

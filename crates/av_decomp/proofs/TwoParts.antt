@@ -4,7 +4,7 @@ use Rattle.std.proofs.lemmas.List.{length-take-le, get_or-take}
 use Rattle.av_perm.specs.Relations.{at, IsOneToLength, IsInterval, block, pattern_of, sum_root, skew_root, IsNoInflationOf}
 use Rattle.av_perm.specs.Decompose.{Decomposes}
 use Rattle.av_perm.proofs.Patterns.{length_pattern, pattern_same, word_pattern}
-use Rattle.av_perm.proofs.OneDecomposition.{rise_word, fall_word}
+use Rattle.av_perm.proofs.RootWords.{rise_word, fall_word}
 use Rattle.av_interval.specs.Intervals.{Tiles, places_of}
 use Rattle.av_interval.specs.Cuts.{IsLeast, IsSumCut, IsSkewCut}
 use Rattle.av_interval.proofs.Overlaps.{Low, High}

@@ -1,14 +1,14 @@
 -- An inflation as a map from places to blocks, and back.
 use Rattle.std.proofs.Common.{◌≡◌, ℕ, zero, suc, ◌+◌, ◌<◌, ◌≤◌, ◌≢◌, inl, inr, ◌↔◌, List, [], ◌∷◌, ◌++◌, map, length, cond, ltb, lt-ltb, refl, sym, ap, ◌∙◌, subst, ap₂, arith, length-append}
 use Rattle.std.proofs.lemmas.Bool.{cases_lt, le-ltb}
-use Rattle.std.proofs.lemmas.List.{get_or-map, length-map}
+use Rattle.std.proofs.lemmas.List.{length-map}
 use Rattle.av_perm.specs.Lists.{counting}
 use Rattle.av_perm.specs.Members.{In}
 use Rattle.av_perm.specs.Relations.{at, IsOneToLength, AreBlocks, block, raised, inflate, joined, below, smaller, pattern_of}
 use Rattle.av_perm.specs.Fibre.{fibre}
 use Rattle.av_perm.proofs.Membership.{In_at}
 use Rattle.av_perm.proofs.NoRepeats.{once_from_apart, apart_from_once}
-use Rattle.av_perm.proofs.RisingLists.{length_counting, counting_at}
+use Rattle.av_perm.proofs.Listings.{listed_length, listed_at}
 use Rattle.av_perm.proofs.Patterns.{word_smaller, word_pattern, pattern_word, pattern_raised}
 use Rattle.av_perm.proofs.Pairings.{Pair, tos, Placed, twins, twins_froms, twins_placed, twins_same}
 use Rattle.av_perm.proofs.Fibres.{fibre_at, at_fibre, fibre-map, fibre_once, joined_same, fibres_joined}
@@ -83,10 +83,7 @@ blocks_of σ e k = map (λ i. pattern_of (fibre σ e i)) (counting 0 k)
 
 -- block i is the pattern of fibre i
 pub blocks_at : (σ e : List ℕ) (k i : ℕ) → i < k → block (blocks_of σ e k) i ≡ pattern_of (fibre σ e i)
-blocks_at σ e k i h = get_or-map (λ i. pattern_of (fibre σ e i)) (counting 0 k) i 0 [] (omega (arith, length_counting k 0)) ∙ ap (λ j. pattern_of (fibre σ e j)) (counting_at k 0 i h ∙ plain i)
-  where
-    plain : (i : ℕ) → 0 + i ≡ i
-    plain i = omega arith
+blocks_at σ e k i h = listed_at (λ j. pattern_of (fibre σ e j)) k i [] h
 
 -- each child is reached
 abbrev pub Onto : ℕ → List ℕ → Type 0
@@ -100,7 +97,7 @@ pattern_filled (y ∷ l) x i = omega arith
 -- the blocks of a map onto the root are words
 pub blocks_are : (σ π e : List ℕ) → IsOneToLength σ → Sends π σ e → Onto (length π) e → AreBlocks π (blocks_of σ e (length π))
 blocks_are σ π e w m o = record {
-  count = length-map (counting 0 (length π)) (λ i. pattern_of (fibre σ e i)) ∙ length_counting (length π) 0;
+  count = listed_length (λ i. pattern_of (fibre σ e i)) (length π);
   words = λ i h. subst IsOneToLength (sym (blocks_at σ e (length π) i h)) (pattern_word (fibre σ e i) (apart_from_once (fibre σ e i) (fibre_once σ e i (once_from_apart σ w.apart))));
   filled = λ i h.
       let r = o i h in
@@ -155,7 +152,7 @@ embedding_value σ π e w m =
     αs = blocks_of σ e (length π)
 
     count : length (blocks_of σ e (length π)) ≡ length π
-    count = length-map (counting 0 (length π)) (λ i. pattern_of (fibre σ e i)) ∙ length_counting (length π) 0
+    count = listed_length (λ i. pattern_of (fibre σ e i)) (length π)
 
 -- pairs as many as the word
 placed_le : (z : List Pair) (ys : List ℕ) → Placed z ys → length z ≤ length ys

@@ -20,7 +20,7 @@ use Rattle.av_perm.proofs.Patterns.{length_pattern, pattern_word, pattern_same, 
 use Rattle.av_perm.proofs.Inflations.{shift, lifted, block_order, length_inflate, lengths_least, lengths_sum}
 use Rattle.av_perm.proofs.SimpleWords.{simple_law}
 use Rattle.av_perm.proofs.Sums.{sum_law, skew_law}
-use Rattle.av_perm.proofs.OneDecomposition.{root_word}
+use Rattle.av_perm.proofs.RootWords.{root_word}
 use Rattle.av_perm.proofs.SomeDecomposition.{some_decomposition}
 
 -- pieces one after another
