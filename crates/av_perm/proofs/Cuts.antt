@@ -139,19 +139,19 @@ cut_map π σ e c two k n t = record {
         let y = ap (at π) q in
         (λ l. let r = z.0 l in omega arith, λ l. z.1 (omega arith))
 
--- the child of place `s` by the map that turns at `c`
+-- the child of place `s`: the first before `c`, the second from there on
 abbrev side : ℕ → ℕ → ℕ
 side c s = cond (ltb s c) 0 1
 
--- that map of n places
+-- the map of n places that turns at `c`
 abbrev pub turning : ℕ → ℕ → List ℕ
 turning c n = listed (side c) n
 
--- that map has n places
+-- the map made to turn at `c` has n places
 pub turning_length : (c n : ℕ) → length (turning c n) ≡ n
 turning_length c n = listed_length (side c) n
 
--- that map turns at `c`
+-- the map made to turn at `c` turns there
 pub turning_turns : (c n : ℕ) → 0 < c → c < n → TurnsAt (turning c n) c
 turning_turns c n some fits =
     let long = turning_length c n in
@@ -162,11 +162,11 @@ turning_turns c n some fits =
       after = λ s h k. listed_at (side c) n s 0 (omega arith) ∙ ap (λ b. cond {A = ℕ} b 0 1) (le-ltb s c h);
     }
 
--- the blocks of that map
+-- the blocks of a word with a cut
 abbrev pub cut_blocks : List ℕ → List ℕ → ℕ → List (List ℕ)
 cut_blocks π σ c = blocks_of σ (turning c (length σ)) (length π)
 
--- a word with a cut is the inflation of the root by the blocks of the map that turns there
+-- a word with a cut is the inflation of the root by its blocks
 pub cut_inflates : (π σ : List ℕ) (c : ℕ) → length π ≡ 2 → IsOneToLength σ → Cuts π σ c
     → AreBlocks π (cut_blocks π σ c) × (inflate π (cut_blocks π σ c) ≡ σ)
 cut_inflates π σ c two w k =

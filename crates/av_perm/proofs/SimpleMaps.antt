@@ -1,4 +1,4 @@
--- A map onto a simple root is the only map of its word: it puts together what any other puts together.
+-- A map onto a simple root puts together what any other map onto a root does: so it is the word's only one onto a root that is 12, 21 or simple.
 use Rattle.std.proofs.Common.{◌≡◌, ℕ, suc, ◌+◌, ◌-◌, ◌<◌, ◌≤◌, ◌≢◌, ◌⊎◌, inl, inr, List, length, refl, sym, ap, ◌∙◌, arith}
 use Rattle.std.proofs.lemmas.Bool.{cases_lt, cases_eq}
 use Rattle.av_perm.specs.Relations.{at, IsSimple}

@@ -33,7 +33,7 @@ two_cut f d u = elim (cases_order (f 0) (f 1)) [
     ends : (s t : ℕ) → s < 1 → 1 ≤ t → t < 2 → (f s ≡ f 0) × (f t ≡ f 1)
     ends s t x y z = (ap f (omega arith), ap f (omega arith))
 
--- one of two places is the first or the next
+-- the number at one of two neighbouring places is that at the first or that at the next
 here_or_next : (f : ℕ → ℕ) (i s : ℕ) → i ≤ s → s < i + 2 → (f s ≡ f i) ⊎ (f s ≡ f (i + 1))
 here_or_next f i s h l = elim (cases_eq s i) [
   | inl q ↦ inl (ap f q)

@@ -13,7 +13,7 @@ squash a d s = s - min d (s - a)
 abbrev spread : ℕ → ℕ → ℕ → ℕ
 spread a d i = cond (ltb a i) (i + d) i
 
--- up to `a` that is the same place, after it the place `d` later
+-- the first place that goes to `i` is `i` up to `a`, and d later after it
 spread_is : (a d i : ℕ) → ((i ≤ a) × (spread a d i ≡ i)) ⊎ ((a < i) × (spread a d i ≡ i + d))
 spread_is a d i = elim (cases_lt a i) [
   | inl l ↦ inr (l, ap (λ b. cond b (i + d) i) (lt-ltb a i l))
@@ -48,11 +48,11 @@ spread_below a d n i h = let x = spread_is a d i in omega arith
 squash_before : (a d c s : ℕ) → s < spread a d c → squash a d s < c
 squash_before a d c s h = let x = spread_is a d c in omega arith
 
--- the other places do not go before `c`
+-- places from the first that goes to `c` on do not go before `c`
 squash_after : (a d c t : ℕ) → spread a d c ≤ t → c ≤ squash a d t
 squash_after a d c t h = let x = spread_is a d c in omega arith
 
--- the numbers that are left, the first of the block for the block
+-- the numbers that are left: in place of the block its first
 abbrev squashed : (ℕ → ℕ) → ℕ → ℕ → ℕ → ℕ
 squashed f a d i = f (spread a d i)
 
