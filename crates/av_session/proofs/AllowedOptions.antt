@@ -12,7 +12,7 @@ use Rattle.av_text.specs.Numerals.{is_numeral, number_in}
 use Rattle.av_session.specs.declared.options.TheConstants.{LEAST_MAX_SIMPLE, GREATEST_MAX_SIMPLE, DEFAULT_MAX_SIMPLE, GREATEST_MAX_SIZE, DEFAULT_MAX_SIZE}
 use Rattle.av_session.specs.declared.options.Chosen.{Chosen}
 use Rattle.av_session.specs.declared.options.Options.{Options}
-use Rattle.av_session.specs.Options.{cut, set_once, choose_max_simple, choose_max_size, choose_demo, choose, is_check, choose_check, choose_all, nothing_chosen, stand_together, with_defaults, set_by, options, AreInRanges, IsAllowed}
+use Rattle.av_session.specs.Options.{name_and_value, set_once, choose_max_simple, choose_max_size, choose_demo, choose, is_check, choose_check, choose_all, nothing_chosen, stand_together, with_defaults, set_by, options, AreInRanges, IsAllowed}
 use Rattle.av_session.proofs.FirstOptions.{one_word_first, check_first, two_words_first, name_alone_first}
 
 -- a numeral in a range is in the range
@@ -88,15 +88,15 @@ checked word words chosen e h =
 all_within : (words : List (List ℕ)) (chosen : Chosen) → AreInRanges chosen → IfSome (choose_all words chosen) AreInRanges
 unfolding choose_all
 all_within [] chosen h = h
-all_within (word ∷ []) chosen h = by (cut word) (is_check word) refl refl
+all_within (word ∷ []) chosen h = by (name_and_value word) (is_check word) refl refl
   where
-    by : (o : Option (List ℕ × List ℕ)) (b : Bool) → cut word ≡ o → is_check word ≡ b → IfSome (choose_all (word ∷ []) chosen) AreInRanges
+    by : (o : Option (List ℕ × List ℕ)) (b : Bool) → name_and_value word ≡ o → is_check word ≡ b → IfSome (choose_all (word ∷ []) chosen) AreInRanges
     by None true e f = checked word [] chosen f (then_within (choose_all []) (choose_check chosen) (check_within chosen h) (λ c k. k))
     by None false e f = subst (λ o. IfSome o AreInRanges) (name_alone_first word chosen e f) tt
     by (Some p) b e f = subst (λ o. IfSome o AreInRanges) (one_word_first word p.0 p.1 [] chosen e) (then_within (choose_all []) (choose chosen p.0 p.1) (choose_within chosen p.0 p.1 h) (λ c k. k))
-all_within (word ∷ next ∷ words) chosen h = by (cut word) (is_check word) refl refl (all_within (next ∷ words)) (all_within words)
+all_within (word ∷ next ∷ words) chosen h = by (name_and_value word) (is_check word) refl refl (all_within (next ∷ words)) (all_within words)
   where
-    by : (o : Option (List ℕ × List ℕ)) (b : Bool) → cut word ≡ o → is_check word ≡ b → ((c : Chosen) → AreInRanges c → IfSome (choose_all (next ∷ words) c) AreInRanges) → ((c : Chosen) → AreInRanges c → IfSome (choose_all words c) AreInRanges)
+    by : (o : Option (List ℕ × List ℕ)) (b : Bool) → name_and_value word ≡ o → is_check word ≡ b → ((c : Chosen) → AreInRanges c → IfSome (choose_all (next ∷ words) c) AreInRanges) → ((c : Chosen) → AreInRanges c → IfSome (choose_all words c) AreInRanges)
         → IfSome (choose_all (word ∷ next ∷ words) chosen) AreInRanges
     by None true e k f g = checked word (next ∷ words) chosen k (then_within (choose_all (next ∷ words)) (choose_check chosen) (check_within chosen h) f)
     by None false e k f g = subst (λ o. IfSome o AreInRanges) (two_words_first word next words chosen e k) (then_within (choose_all words) (choose chosen word next) (choose_within chosen word next h) g)

@@ -24,7 +24,7 @@ use Rattle.av_session.specs.declared.options.Chosen.{Chosen}
 use Rattle.av_session.specs.Command.{Texts, permspec, is_dashes, is_given, chosen_by, texts_found}
 use Rattle.av_session.specs.declared.options.WordsError.{WordsError}
 use Rattle.av_session.specs.declared.options.WordsError.TheVariants as error
-use Rattle.av_session.specs.Options.{cut, set_once, choose, is_check, choose_check, choose_all, nothing_chosen, set_by, options, GivesOptions}
+use Rattle.av_session.specs.Options.{name_and_value, set_once, choose, is_check, choose_check, choose_all, nothing_chosen, set_by, options, GivesOptions}
 use Rattle.av_session.proofs.FirstOptions.{one_word_first, check_first, two_words_first, name_alone_first}
 use Rattle.av_session.proofs.OptionWords.{Which, simple, size, demo, name, dashed, before, after, begins, IsStrange, IsNamed, named, with_value, strange_chooses, IsCut, cut_of}
 use Rattle.av_session.proofs.OptionRows.{rule, check_rule, text, given, Holds, holds_given, holds_check, holds_default}
@@ -172,7 +172,7 @@ strange_word word words d s rows p t e h = turn_refused (at rows p idle) word wo
     by (next ∷ words) (inl k) c = sym (two_words_first word next words c k.0 (unchecked k.1)) ∙ ap (option_and_then (choose_all words)) (strange_chooses word next c (subst IsStrange k.1 s))
 
 -- an option with its value in the same word
-joined_word : (k : Which) (v : Text) (words : List Text) → cut (dashed k ++ 61 ∷ v) ≡ Some (dashed k, v) → IsRead words → IsRead ((dashed k ++ 61 ∷ v) ∷ words)
+joined_word : (k : Which) (v : Text) (words : List Text) → name_and_value (dashed k ++ 61 ∷ v) ≡ Some (dashed k, v) → IsRead words → IsRead ((dashed k ++ 61 ∷ v) ∷ words)
 joined_word k v words cuts ih rows p t e h = by (text k t) refl ∙ same_then _ _ (chosen_by t) (λ c. one_word_first (dashed k ++ 61 ∷ v) (dashed k) v words c cuts)
   where
     held : List Row
@@ -248,7 +248,7 @@ unfolding choose
 no_choice v c = refl
 
 -- an option without its value, and the next word
-apart_word : (k : Which) (words : List Text) → HasNoDashes words → cut (dashed k) ≡ None → ((next : Text) (rest : List Text) → words ≡ next ∷ rest → IsRead rest) → IsRead (dashed k ∷ words)
+apart_word : (k : Which) (words : List Text) → HasNoDashes words → name_and_value (dashed k) ≡ None → ((next : Text) (rest : List Text) → words ≡ next ∷ rest → IsRead rest) → IsRead (dashed k ∷ words)
 apart_word k [] d cuts ih rows p t e h =
     turn_taken (at rows p idle) (at (settled_rows rules p rows) (Some (name k, [])) (option (name k))) (dashed k) [] (fault_apart k rows p ∙ ap (λ s. or_else s []) e) (step_apart k rows p)
     ∙ end_unsettled (settled_rows rules p rows) (Some (name k, [])) (option (name k)) (waiting_unsettled k (settled_rows rules p rows))
@@ -289,7 +289,7 @@ check_word words ih rows p t e h = by t.check refl ∙ same_then _ _ (chosen_by 
         ∙ sym (then_none (choose_all words) choose_check (chosen_by t) (check_again t f))
 
 -- with a value it is no option
-check_value : (v : Text) (words : List Text) → cut (codes "--check" ++ 61 ∷ v) ≡ Some (codes "--check", v) → IsRead ((codes "--check" ++ 61 ∷ v) ∷ words)
+check_value : (v : Text) (words : List Text) → name_and_value (codes "--check" ++ 61 ∷ v) ≡ Some (codes "--check", v) → IsRead ((codes "--check" ++ 61 ∷ v) ∷ words)
 check_value v words cuts rows p t e h =
     turn_refused (at rows p idle) (codes "--check" ++ 61 ∷ v) words (value_refused rows p v)
     ∙ sym (none_then (choose_all ((codes "--check" ++ 61 ∷ v) ∷ words)) (chosen_by t) (λ c. sym (one_word_first (codes "--check" ++ 61 ∷ v) (codes "--check") v words c cuts) ∙ ap (option_and_then (choose_all words)) (no_choice v c)))
@@ -302,14 +302,14 @@ one_more_word word words d ih later = by (named (before word)) (cut_of word)
     by (inr (inl n)) (inl c) = subst (λ w. IsRead (w ∷ words)) (sym n ∙ c.1) (check_word words ih)
     by (inr (inl n)) (inr c) =
         let e : codes "--check" ++ 61 ∷ after word ≡ word = sym (c.1 ∙ ap (λ b. b ++ 61 ∷ after word) n) in
-        subst (λ w. IsRead (w ∷ words)) e (check_value (after word) words (ap cut e ∙ c.0 ∙ ap (λ b. Some (b, after word)) n))
+        subst (λ w. IsRead (w ∷ words)) e (check_value (after word) words (ap name_and_value e ∙ c.0 ∙ ap (λ b. Some (b, after word)) n))
     by (inr (inr s)) c = strange_word word words (first_false (is_dashes word) (list_any is_dashes words) d) s
     by (inl n) (inl c) =
         let e : dashed n.0 ≡ word = sym n.1 ∙ c.1 in
-        subst (λ w. IsRead (w ∷ words)) e (apart_word n.0 words (second_false (is_dashes word) (list_any is_dashes words) d) (ap cut e ∙ c.0) later)
+        subst (λ w. IsRead (w ∷ words)) e (apart_word n.0 words (second_false (is_dashes word) (list_any is_dashes words) d) (ap name_and_value e ∙ c.0) later)
     by (inl n) (inr c) =
         let e : dashed n.0 ++ 61 ∷ after word ≡ word = sym (c.1 ∙ ap (λ b. b ++ 61 ∷ after word) n.1) in
-        subst (λ w. IsRead (w ∷ words)) e (joined_word n.0 (after word) words (ap cut e ∙ c.0 ∙ ap (λ b. Some (b, after word)) n.1) ih)
+        subst (λ w. IsRead (w ∷ words)) e (joined_word n.0 (after word) words (ap name_and_value e ∙ c.0 ∙ ap (λ b. Some (b, after word)) n.1) ih)
 
 all_read : (words : List Text) → HasNoDashes words → IsRead words
 all_read [] d = no_words
@@ -383,7 +383,7 @@ abbrev IsNothing : List Text → Type 0
 IsNothing words = (c : Chosen) → choose_all words c ≡ None
 
 dashes_first : (words : List Text) → IsNothing (codes "--" ∷ words)
-unfolding cut
+unfolding name_and_value
 dashes_first [] c = sym (name_alone_first (codes "--") c refl refl)
 dashes_first (next ∷ rest) c = sym (two_words_first (codes "--") next rest c refl refl) ∙ ap (option_and_then (choose_all rest)) (strange_chooses (codes "--") next c (refl, refl, refl, refl))
 

@@ -6,7 +6,7 @@ use Rattle.std.proofs.lemmas.Slice.Eq.{bytes_eq-Decides}
 use Rattle.clap.specs.Walk.{Text}
 use Rattle.av_perm.specs.Lists.{same}
 use Rattle.av_session.specs.declared.options.Chosen.{Chosen}
-use Rattle.av_session.specs.Options.{is_equals, cut, choose, is_check}
+use Rattle.av_session.specs.Options.{is_equals, name_and_value, choose, is_check}
 
 -- a word by how it begins: with no hyphen, with one, with two
 pub data Begins : Text → Type 0 where
@@ -88,10 +88,10 @@ whole (x ∷ xs) e = by (x == 61) refl (whole xs)
 
 -- a word with `=`, or without
 abbrev pub IsCut : Text → Type 0
-IsCut word = (cut word ≡ None) × (before word ≡ word) ⊎ (cut word ≡ Some (before word, after word)) × (word ≡ before word ++ 61 ∷ after word)
+IsCut word = (name_and_value word ≡ None) × (before word ≡ word) ⊎ (name_and_value word ≡ Some (before word, after word)) × (word ≡ before word ++ 61 ∷ after word)
 
 pub cut_of : (word : Text) → IsCut word
-unfolding cut
+unfolding name_and_value
 cut_of word = by (list_any is_equals word) refl
   where
     by : (b : Bool) → list_any is_equals word ≡ b → IsCut word

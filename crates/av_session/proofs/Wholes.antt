@@ -15,7 +15,7 @@ use Rattle.av_session.specs.Solved.{solved_script, status_of}
 use Rattle.av_session.specs.Due.{text_due, text_of}
 use Rattle.av_session.specs.Status.{HoldsText, FitsText, FitsRead, FitsScript}
 use Rattle.av_session.specs.Options.{options}
-use Rattle.av_session.specs.Runs.{demo_asked, script_by, script_bytes, most_by, most_read, due, Fits, Fits_of, ReadsWhole, IsComplete}
+use Rattle.av_session.specs.Runs.{demo_asked, script_by, script_bytes, most_by, most_read, due, FitsRun, FitsRun_of, ReadsWhole, IsComplete}
 
 too_long : (bytes : List ℕ) → MAX_SCRIPT_BYTES < length bytes → read bytes ≡ Err (record { line = 0; kind = TooLong })
 unfolding read
@@ -100,8 +100,8 @@ unfolding due script_bytes
 due_text words o s left held held' e h = rw (← e) h
 
 pub due_fits : (words : List (List ℕ)) (o : Options) (s : Status) (left : Option (List ℕ)) → Some o ≡ options words
-    → IfSome (script_by (Some o) left) (λ bytes. FitsText s o bytes) → IfSome (script_bytes words left) (λ bytes. Fits s words bytes)
-unfolding Fits script_bytes
+    → IfSome (script_by (Some o) left) (λ bytes. FitsText s o bytes) → IfSome (script_bytes words left) (λ bytes. FitsRun s words bytes)
+unfolding FitsRun script_bytes
 due_fits words o s left e h = rw (← e) h
 
 -- and the number of bytes that are read at most
@@ -114,30 +114,30 @@ unfolding most_read
 most_whole words o s old new e h = rw (← e) h
 
 -- words that aren't accepted ask for nothing of the text
-pub no_options_fits : (words : List (List ℕ)) (s : Status) (old : Option (List ℕ)) → None ≡ options words → IfSome old (λ bytes. Fits s words bytes)
-unfolding Fits
+pub no_options_fits : (words : List (List ℕ)) (s : Status) (old : Option (List ℕ)) → None ≡ options words → IfSome old (λ bytes. FitsRun s words bytes)
+unfolding FitsRun
 no_options_fits words s None e = tt
 no_options_fits words s (Some bytes) e = rw (← e) tt
 
 -- want of memory fits with any words
-pub memory_fits_all : (words : List (List ℕ)) (old : Option (List ℕ)) → IfSome old (λ bytes. Fits status.Memory words bytes)
-unfolding Fits
+pub memory_fits_all : (words : List (List ℕ)) (old : Option (List ℕ)) → IfSome old (λ bytes. FitsRun status.Memory words bytes)
+unfolding FitsRun
 memory_fits_all words None = tt
 memory_fits_all words (Some bytes) = by (options words)
   where
-    by : (o : Option Options) → Fits_of status.Memory o bytes
+    by : (o : Option Options) → FitsRun_of status.Memory o bytes
     by None = tt
     by (Some o) = (free_read o (read bytes)).0
 
 -- no status but Done and Memory is left
 pub complete_by : (s : Status) (left : Option (List ℕ)) (words : List (List ℕ)) (R W : Type 0) → (s ≡ status.Words → options words ≡ None) → (s ≡ status.ReadFault → R) → (s ≡ status.WriteFault → W)
-    → IfSome left (λ bytes. Fits s words bytes) → IsComplete s left words R W
-unfolding Fits
+    → IfSome left (λ bytes. FitsRun s words bytes) → IsComplete s left words R W
+unfolding FitsRun
 complete_by s left words R W no_words read_rose write_rose fits bytes o script class l a r settled no_read no_write = by s no_words read_rose write_rose here
   where
-    told : (left : Option (List ℕ)) → left ≡ Some bytes → IfSome left (λ bytes. Fits_of s (options words) bytes) → Fits_of s (options words) bytes
+    told : (left : Option (List ℕ)) → left ≡ Some bytes → IfSome left (λ bytes. FitsRun_of s (options words) bytes) → FitsRun_of s (options words) bytes
     told None e f = absurd (cc)
-    told (Some all) e f = let same : all ≡ bytes = cc in subst (λ b. Fits_of s (options words) b) same f
+    told (Some all) e f = let same : all ≡ bytes = cc in subst (λ b. FitsRun_of s (options words) b) same f
 
     done : status_of (solved_script o script) ≡ status.Done
     done = rw settled refl

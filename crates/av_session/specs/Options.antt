@@ -17,8 +17,8 @@ abbrev pub is_equals : ℕ → Bool
 is_equals b = b == 61
 
 -- the name and the value of a word with `=`: what stands before the first one, and what follows it
-unfoldable pub cut : List ℕ → Option (List ℕ × List ℕ)
-cut word = option_map (λ at. (take at word, drop (at + 1) word)) (position is_equals word)
+unfoldable pub name_and_value : List ℕ → Option (List ℕ × List ℕ)
+name_and_value word = option_map (λ at. (take at word, drop (at + 1) word)) (position is_equals word)
 
 -- the value of an option that may not be set yet: a numeral from low to high
 unfoldable pub set_once : ℕ → ℕ → Option ℕ → List ℕ → Option ℕ
@@ -60,12 +60,12 @@ choose_check chosen = if chosen.check then None else Some (record chosen { check
 unfoldable pub choose_all : List (List ℕ) → Chosen → Option Chosen
 choose_all [] = λ chosen. Some chosen
 choose_all (word ∷ []) = λ chosen.
-    elim (cut word) [
+    elim (name_and_value word) [
       | Some named ↦ choose chosen named.0 named.1
       | None ↦ if is_check word then choose_check chosen else None
     ]
 choose_all (word ∷ next ∷ words) = λ chosen.
-    elim (cut word) [
+    elim (name_and_value word) [
       | Some named ↦ option_and_then (choose_all (next ∷ words)) (choose chosen named.0 named.1)
       | None ↦ if is_check word then option_and_then (choose_all (next ∷ words)) (choose_check chosen)
           else option_and_then (choose_all words) (choose chosen word next)

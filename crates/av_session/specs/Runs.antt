@@ -82,13 +82,13 @@ due_of (Some options) bytes = text_due options bytes
 unfoldable pub due : List (List ℕ) → List ℕ → List ℕ
 due words bytes = due_of (options words) bytes
 
-abbrev pub Fits_of : Status → Option Options → List ℕ → Type 0
-Fits_of s None bytes = Unit {0}
-Fits_of s (Some options) bytes = FitsText s options bytes
+abbrev pub FitsRun_of : Status → Option Options → List ℕ → Type 0
+FitsRun_of s None bytes = Unit {0}
+FitsRun_of s (Some options) bytes = FitsText s options bytes
 
 -- the status may come with these words, where these bytes are read as a script
-unfoldable pub Fits : Status → List (List ℕ) → List ℕ → Type 0
-Fits s words bytes = Fits_of s (options words) bytes
+unfoldable pub FitsRun : Status → List (List ℕ) → List ℕ → Type 0
+FitsRun s words bytes = FitsRun_of s (options words) bytes
 
 -- the source was read to its end, or so many bytes of it
 abbrev pub IsReadWhole : ℕ → Option (List ℕ) → Option (List ℕ) → Type 0

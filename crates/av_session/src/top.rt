@@ -9,7 +9,7 @@ ghost use Rattle.av_session.specs.Options.{options, IsAllowed};
 ghost use Rattle.av_session.specs.Taken.{TakesUpTo};
 ghost use Rattle.av_session.specs.Status.{HoldsText, FitsText, ComesAfterReading};
 ghost use Rattle.av_session.specs.Due.{text_due};
-ghost use Rattle.av_session.specs.Runs.{demo_asked, bytes_by, script_by, script_bytes, most_by, most_read, due, Fits, ReadsWhole, IsComplete, IsAbout, HasCases, WritesSystem};
+ghost use Rattle.av_session.specs.Runs.{demo_asked, bytes_by, script_by, script_bytes, most_by, most_read, due, FitsRun, ReadsWhole, IsComplete, IsAbout, HasCases, WritesSystem};
 ghost use Rattle.av_check.specs.declared.claim.Claim.{Claim};
 ghost use Rattle.av_check.specs.Claims.{IsClaim};
 ghost use Rattle.av_session.specs.Checks.{IsTold, HasTold, claimed_by, claim_bytes, HoldsCheck, FitsCheck, HoldsTold, FitsWords, IsAboutClaim, IsCheckComplete};
@@ -177,7 +177,7 @@ pub fn run<S: Source, K: Sink>(
     ensures read_fault { result ≡ Status.ReadFault → Rose (S.faults source.old) (S.faults source.new) }
     ensures no_read_fault { IfSome (demo_asked (map string_bytes words.now)) (λ _. result ≡ Status.ReadFault → ⊥) }
     ensures write_fault { result ≡ Status.WriteFault → Rose (K.faults sink.old) (K.faults sink.new) }
-    ensures fits { IfSome (script_bytes (map string_bytes words.now) (S.left source.old)) (λ bytes. Fits result (map string_bytes words.now) bytes) }
+    ensures fits { IfSome (script_bytes (map string_bytes words.now) (S.left source.old)) (λ bytes. FitsRun result (map string_bytes words.now) bytes) }
     ensures check_fits { IfSome (claim_bytes (map string_bytes words.now) (S.left source.old)) (λ bytes. FitsWords result (map string_bytes words.now) bytes) }
 
     // What the sink holds then, and what was read.
