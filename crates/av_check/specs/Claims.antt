@@ -153,7 +153,7 @@ IsRefused bytes line BadClaim = (length bytes ≤ MAX_CLAIM_BYTES) × IsFault (s
 IsRefused bytes line kind = ⊥
 
 -- what a text is, unless memory is wanting
-abbrev pub Answers : List ℕ → Result Claim ClaimError → Type 0
-Answers bytes (Ok claim) = IsClaim bytes claim
-Answers bytes (Err Memory) = Unit {0}
-Answers bytes (Err (Refused line kind)) = IsRefused bytes line kind
+abbrev pub GivesClaim : List ℕ → Result Claim ClaimError → Type 0
+GivesClaim bytes (Ok claim) = IsClaim bytes claim
+GivesClaim bytes (Err Memory) = Unit {0}
+GivesClaim bytes (Err (Refused line kind)) = IsRefused bytes line kind

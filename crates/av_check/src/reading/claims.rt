@@ -4,7 +4,7 @@ ghost use Rattle.std.specs.List.{list_all};
 ghost use Rattle.av_text.specs.Lines.{script_lines};
 ghost use Rattle.av_print.specs.Text.{words_text};
 ghost use Rattle.av_print.specs.Systems.{terms_count};
-ghost use Rattle.av_check.specs.Claims.{TellsWords, TellsCounts, Answers};
+ghost use Rattle.av_check.specs.Claims.{TellsWords, TellsCounts, GivesClaim};
 ghost use Rattle.av_check.specs.Reading.{Reads, list_tokens, IsFewPatterns, FirstIs, TakesLine, TellsEquation, TellsTheseCounts, ReadsEquations, ReadsFirst, ReadsCounts, ReadsSystem, ReadsClaim};
 
 use crate::claim::Claim;
@@ -262,7 +262,7 @@ fn line_number(all: usize, left: usize) -> u32
 /// first line that isn't as demanded in its place, or 0 where the text ends before the claim does. `Memory` comes only for want of
 /// memory.
 pub fn read_claim(alloc: Global, bytes: &[u8]) -> Result<Claim, ClaimError>
-    ensures { Answers bytes.now result }
+    ensures { GivesClaim bytes.now result }
 {
     if bytes.len() > MAX_CLAIM_BYTES {
         return Err(ClaimError::Refused {
