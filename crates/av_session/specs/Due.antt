@@ -3,7 +3,7 @@ use Rattle.std.specs.Prelude.{ℕ, ◌-◌, List, [], length, Option, Some, None
 use Rattle.av_perm.specs.Lists.{counting}
 use Rattle.av_perm.specs.Gap.{simples}
 use Rattle.av_simple.specs.Searched.{Searched, last_of}
-use Rattle.av_text.specs.Kinds.{number_of}
+use Rattle.av_text.specs.Kinds.{kind_number}
 use Rattle.av_text.specs.declared.queries.Query.{Query}
 use Rattle.av_text.specs.declared.script.Script.{Script}
 use Rattle.av_text.specs.Read.{Fault, read}
@@ -69,7 +69,7 @@ script_text options script = class_text options script.queries (solved_script op
 
 -- the text where the source is no script
 unfoldable pub fault_text : Fault → List ℕ
-fault_text fault = codes "fault " ⊹ decimal fault.line ⊹ codes " " ⊹ decimal (number_of fault.kind) ⊹ codes "\n"
+fault_text fault = codes "fault " ⊹ decimal fault.line ⊹ codes " " ⊹ decimal (kind_number fault.kind) ⊹ codes "\n"
 
 -- the text of what the source says
 abbrev pub text_of : Options → Result Script Fault → List ℕ

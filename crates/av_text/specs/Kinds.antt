@@ -4,19 +4,19 @@ use Rattle.av_text.specs.declared.kind.Kind.{Kind}
 use Rattle.av_text.specs.declared.kind.Kind.TheVariants.{NoBasis, BadWord, LongWord, ManyWords, UnknownQuery, BadNumber, Range, TooLong, BadByte, SecondBasis, SecondRequire, SecondFormat, BadClaim, LongUnion, SecondUnion}
 
 -- the number of a kind
-abbrev pub number_of : Kind → ℕ
-number_of NoBasis = 1
-number_of BadWord = 2
-number_of LongWord = 3
-number_of ManyWords = 4
-number_of UnknownQuery = 5
-number_of BadNumber = 6
-number_of Range = 7
-number_of TooLong = 8
-number_of BadByte = 9
-number_of SecondBasis = 10
-number_of SecondRequire = 11
-number_of SecondFormat = 12
-number_of BadClaim = 13
-number_of LongUnion = 14
-number_of SecondUnion = 15
+abbrev pub kind_number : Kind → ℕ
+kind_number NoBasis = 1
+kind_number BadWord = 2
+kind_number LongWord = 3
+kind_number ManyWords = 4
+kind_number UnknownQuery = 5
+kind_number BadNumber = 6
+kind_number Range = 7
+kind_number TooLong = 8
+kind_number BadByte = 9
+kind_number SecondBasis = 10
+kind_number SecondRequire = 11
+kind_number SecondFormat = 12
+kind_number BadClaim = 13
+kind_number LongUnion = 14
+kind_number SecondUnion = 15

@@ -1,6 +1,6 @@
 // The kinds of faults.
 ghost use Rattle.std.specs.Prelude.{◌≡◌};
-ghost use Rattle.av_text.specs.Kinds.{number_of};
+ghost use Rattle.av_text.specs.Kinds.{kind_number};
 
 /// Why a script or a claim is refused.
 #[derive(Clone, Copy, Debug, PartialEq, Eq, thiserror::Error)]
@@ -57,7 +57,7 @@ pub enum Kind {
 impl Kind {
     /// The number that a fault is reported by, from 1 to 15.
     pub fn number(self) -> u8
-        ensures { result ≡ number_of self }
+        ensures { result ≡ kind_number self }
     {
         self as u8
     }

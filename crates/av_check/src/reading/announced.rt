@@ -3,7 +3,7 @@ ghost use Rattle.std.specs.Prelude.{◌≡◌, ◌↔◌, [], ◌∷◌, ◌++�
 ghost use Rattle.av_check.specs.Reading.{Reads, AreCounts, numerals, counts_tokens, counts_line};
 
 use crate::limits::MAX_CLAIM_SIZE;
-use crate::reading::numbers::number_of;
+use crate::reading::numbers::number_between;
 use crate::reading::pieces::{cut_at, is};
 use av_perm::Memory;
 use std::alloc::Global;
@@ -20,9 +20,9 @@ pub struct Counts {
 fn numbers_of(version: &[u8], equations: &[u8], terms: &[u8]) -> Option<Counts>
     ensures { Reads AreCounts numerals (version.now ∷ equations.now ∷ terms.now ∷ []) result }
 {
-    let version = number_of(version, 1, 2)?;
-    let equations = number_of(equations, 1, MAX_CLAIM_SIZE)?;
-    let terms = number_of(terms, 0, MAX_CLAIM_SIZE - equations)?;
+    let version = number_between(version, 1, 2)?;
+    let equations = number_between(equations, 1, MAX_CLAIM_SIZE)?;
+    let terms = number_between(terms, 0, MAX_CLAIM_SIZE - equations)?;
     Some(Counts {
         version,
         equations,

@@ -11,7 +11,7 @@ returns-in-Some c =
     reads_as (record {
       to = λ v w f. (omega arith, e ∙ ap (λ s. codes "E" ++ s) f);
       from = λ v w f. ((omega arith, omega arith), append_cancel_left (codes "E") _ _ (sym e ∙ f));
-    }) c.number_of.result c.number_of.ensures
+    }) c.number_between.result c.number_between.ensures
 
 pub returns-in-None : goal.returns-in-None
 unfolding number_text

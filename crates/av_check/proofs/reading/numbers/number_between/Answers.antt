@@ -1,6 +1,6 @@
 use Rattle.std.proofs.Common.{arith}
 use Rattle.av_check.proofs.Numerals.{number_from, number_none}
-use Rattle.av_check.proofs.reading.numbers.number_of.Goals as goal
+use Rattle.av_check.proofs.reading.numbers.number_between.Goals as goal
 
 pub returns-in-Ok : goal.returns-in-Ok
 returns-in-Ok c =
