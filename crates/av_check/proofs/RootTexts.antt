@@ -1,55 +1,16 @@
--- Roots, by their tests and their texts.
-use Rattle.std.proofs.Common.{◌≡◌, ◌⊎◌, inl, inr, ℕ, ◌<◌, ◌≤◌, true, ◌&&◌, ◌||◌, List, [], ◌++◌, length, codes, nat_le, refl, sym, ap, ◌∙◌, arith, append-nil}
+-- Roots by their texts.
+use Rattle.std.proofs.Common.{◌≡◌, ◌⊎◌, inl, inr, ℕ, ◌<◌, ◌≤◌, List, [], ◌++◌, length, codes, refl, sym, ap, ◌∙◌, arith, append-nil}
 use Rattle.std.specs.Char.{is_ascii_digit}
-use Rattle.std.proofs.lemmas.Bool.{and_parts, and_from, or_cases, or_right, le-leb, leb-true, cases_lt}
+use Rattle.std.proofs.lemmas.Bool.{cases_lt}
 use Rattle.std.proofs.lemmas.List.{append_cancel_left}
 use Rattle.av_perm.specs.declared.limits.TheConstants.{MAX_ROOT_LENGTH}
-use Rattle.av_perm.specs.Lists.{same}
-use Rattle.av_perm.specs.Word.{is_word}
-use Rattle.av_perm.specs.WordOrder.{word_same}
-use Rattle.av_perm.specs.Simple.{is_simple}
-use Rattle.av_perm.specs.Relations.{IsWord, IsSimple, sum_root, skew_root}
-use Rattle.av_perm.proofs.SimpleWords.{simple_law}
-use Rattle.av_perm.proofs.WordTests.{word_from, word_to}
-use Rattle.av_sys.specs.Terms.{IsSystemRoot, is_root}
+use Rattle.av_sys.specs.Terms.{IsSystemRoot}
 use Rattle.av_print.specs.Text.{word_text, root_text}
 use Rattle.av_print.proofs.UniqueReading.{begins_apart}
 use Rattle.av_print.proofs.ReadWords.{IsShortWord, word_begins, plain_root, bracketed_root, root_read}
 use Rattle.av_print.proofs.ReadSystems.{system_root}
 use Rattle.av_check.specs.Claims.{IsPattern}
 use Rattle.av_check.proofs.ReadAs.{SameReadings}
-
--- the test of a simple root
-simple_from : (w : List ℕ) → (nat_le (length w) MAX_ROOT_LENGTH && (is_word w && is_simple w)) ≡ true → IsSimple w × (length w ≤ MAX_ROOT_LENGTH)
-simple_from w e =
-    let a = and_parts (nat_le (length w) MAX_ROOT_LENGTH) (is_word w && is_simple w) e in
-    let b = and_parts (is_word w) (is_simple w) a.1 in
-    ((simple_law w (word_from w b.0).numbers).0 b.1, leb-true (length w) MAX_ROOT_LENGTH a.0)
-
-simple_to : (w : List ℕ) → IsSimple w → length w ≤ MAX_ROOT_LENGTH → (nat_le (length w) MAX_ROOT_LENGTH && (is_word w && is_simple w)) ≡ true
-simple_to w s h =
-    and_from (nat_le (length w) MAX_ROOT_LENGTH) (is_word w && is_simple w) (le-leb (length w) MAX_ROOT_LENGTH h)
-    (and_from (is_word w) (is_simple w) (word_to w word) ((simple_law w s.numbers).1 s))
-  where
-    word : IsWord w
-    word = record { numbers = s.numbers; filled = omega (arith, s.long) }
-
--- the test of a root
-pub root_from : (w : List ℕ) → is_root w ≡ true → IsSystemRoot w
-root_from w e = elim (or_cases (same w sum_root) (same w skew_root || (nat_le (length w) MAX_ROOT_LENGTH && (is_word w && is_simple w))) e) [
-  | inl h ↦ inl (word_same w sum_root h)
-  | inr h ↦ elim (or_cases (same w skew_root) (nat_le (length w) MAX_ROOT_LENGTH && (is_word w && is_simple w)) h) [
-    | inl k ↦ inr (inl (word_same w skew_root k))
-    | inr k ↦ inr (inr (simple_from w k))
-  ]
-]
-
-pub root_to : (w : List ℕ) → IsSystemRoot w → is_root w ≡ true
-root_to w (inl e) = ap is_root e
-root_to w (inr (inl e)) = ap is_root e
-root_to w (inr (inr s)) =
-    or_right (same w sum_root) (same w skew_root || (nat_le (length w) MAX_ROOT_LENGTH && (is_word w && is_simple w)))
-    (or_right (same w skew_root) (nat_le (length w) MAX_ROOT_LENGTH && (is_word w && is_simple w)) (simple_to w s.0 s.1))
 
 -- a pattern, and a root, are words that can be written
 pub pattern_short : (w : List ℕ) → IsPattern w → IsShortWord w

@@ -14,7 +14,7 @@ use Rattle.av_perm.proofs.WordTests.{word_from, word_to}
 use Rattle.av_sys.specs.declared.terms.Term.{Term}
 use Rattle.av_sys.specs.declared.terms.Term.TheVariants.{Point, Node}
 use Rattle.av_sys.specs.declared.terms.System.{System}
-use Rattle.av_sys.specs.Terms.{IsSystemRoot, IsTermOf, IsWellFormed, is_root, is_term_of, are_terms_of, well_formed}
+use Rattle.av_sys.specs.Terms.{IsSystemRoot, IsTermOf, IsWellFormed, is_system_root, is_term_of, are_terms_of, well_formed}
 use Rattle.av_sys.specs.Laws.{WellFormedLaw}
 
 -- the test of a simple root
@@ -33,7 +33,7 @@ simple_to w s h =
     word = record { numbers = s.numbers; filled = omega (arith, s.long) }
 
 -- the test of a root
-root_from : (w : List ℕ) → is_root w ≡ true → IsSystemRoot w
+pub root_from : (w : List ℕ) → is_system_root w ≡ true → IsSystemRoot w
 root_from w e = elim (or_cases (same w sum_root) (same w skew_root || (nat_le (length w) MAX_ROOT_LENGTH && (is_word w && is_simple w))) e) [
   | inl h ↦ inl (word_same w sum_root h)
   | inr h ↦ elim (or_cases (same w skew_root) (nat_le (length w) MAX_ROOT_LENGTH && (is_word w && is_simple w)) h) [
@@ -42,9 +42,9 @@ root_from w e = elim (or_cases (same w sum_root) (same w skew_root || (nat_le (l
   ]
 ]
 
-root_to : (w : List ℕ) → IsSystemRoot w → is_root w ≡ true
-root_to w (inl e) = ap is_root e
-root_to w (inr (inl e)) = ap is_root e
+pub root_to : (w : List ℕ) → IsSystemRoot w → is_system_root w ≡ true
+root_to w (inl e) = ap is_system_root e
+root_to w (inr (inl e)) = ap is_system_root e
 root_to w (inr (inr s)) =
     or_right (same w sum_root) (same w skew_root || (nat_le (length w) MAX_ROOT_LENGTH && (is_word w && is_simple w)))
     (or_right (same w skew_root) (nat_le (length w) MAX_ROOT_LENGTH && (is_word w && is_simple w)) (simple_to w s.0 s.1))
@@ -53,7 +53,7 @@ root_to w (inr (inr s)) =
 term_from : (n : ℕ) (t : Term) → is_term_of n t ≡ true → IsTermOf n t
 term_from n Point e = tt
 term_from n (Node root children) e =
-    let a = and_parts (is_root root) (nat_eq (length children) (length root) && list_all (λ c. nat_lt c n) children) e in
+    let a = and_parts (is_system_root root) (nat_eq (length children) (length root) && list_all (λ c. nat_lt c n) children) e in
     let b = and_parts (nat_eq (length children) (length root)) (list_all (λ c. nat_lt c n) children) a.1 in
     record {
       rooted = root_from root a.0;
@@ -64,7 +64,7 @@ term_from n (Node root children) e =
 term_to : (n : ℕ) (t : Term) → IsTermOf n t → is_term_of n t ≡ true
 term_to n Point h = refl
 term_to n (Node root children) h =
-    and_from (is_root root) (nat_eq (length children) (length root) && list_all (λ c. nat_lt c n) children) (root_to root h.rooted)
+    and_from (is_system_root root) (nat_eq (length children) (length root) && list_all (λ c. nat_lt c n) children) (root_to root h.rooted)
     (and_from (nat_eq (length children) (length root)) (list_all (λ c. nat_lt c n) children) (eq-eqb (length children) (length root) h.count)
     (all_to (λ c. nat_lt c n) children (λ c i. lt-ltb c n (h.numbers c i))))
 

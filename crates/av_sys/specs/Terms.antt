@@ -58,12 +58,12 @@ abbrev pub AreNamedByWords : System → Type 0
 AreNamedByWords S = All (λ e. IsMadeOfWords e.name) S.equations
 
 -- the tests of these
-abbrev pub is_root : List ℕ → Bool
-is_root w = same w sum_root || (same w skew_root || (nat_le (length w) MAX_ROOT_LENGTH && (is_word w && is_simple w)))
+abbrev pub is_system_root : List ℕ → Bool
+is_system_root w = same w sum_root || (same w skew_root || (nat_le (length w) MAX_ROOT_LENGTH && (is_word w && is_simple w)))
 
 abbrev pub is_node_of : ℕ → List ℕ → List ℕ → Bool
 is_node_of equations root children =
-    is_root root && (nat_eq (length children) (length root) && list_all (λ c. nat_lt c equations) children)
+    is_system_root root && (nat_eq (length children) (length root) && list_all (λ c. nat_lt c equations) children)
 
 abbrev pub is_term_of : ℕ → Term → Bool
 is_term_of equations Point = true

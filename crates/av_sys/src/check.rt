@@ -1,14 +1,14 @@
 // Whether a system is well formed.
 ghost use Rattle.std.specs.Prelude.{◌≡◌, ◌↔◌, length, nat_lt, IsTrue};
 ghost use Rattle.std.specs.List.{list_all};
-ghost use Rattle.av_sys.specs.Terms.{is_root, is_node_of, is_term_of, are_terms_of, well_formed, IsWellFormed};
+ghost use Rattle.av_sys.specs.Terms.{is_system_root, is_node_of, is_term_of, are_terms_of, well_formed, IsWellFormed};
 
 use crate::terms::{Children, Equations, System, Term, Terms};
 use av_perm::{MAX_ROOT_LENGTH, Perm, is_simple};
 
-// Whether the word is 12, 21, or simple with at most `MAX_ROOT_LENGTH` entries.
-fn is_root(word: &Perm) -> bool
-    ensures { result ≡ is_root word.now }
+/// Whether the word may be a root of a system: it is 12, 21, or simple with at most `MAX_ROOT_LENGTH` entries.
+pub fn is_system_root(word: &Perm) -> bool
+    ensures { result ≡ is_system_root word.now }
 {
     let entries = word.as_slice();
     entries == [1, 2].as_slice()
@@ -31,7 +31,7 @@ fn are_numbers_of(equations: usize, children: &Children) -> bool
 fn is_node_of(equations: usize, root: &Perm, children: &Children) -> bool
     ensures { result ≡ is_node_of equations root.now children.now }
 {
-    is_root(root) && children.len() == root.len() && are_numbers_of(equations, children)
+    is_system_root(root) && children.len() == root.len() && are_numbers_of(equations, children)
 }
 
 // Whether the term may stand in a system of so many equations.

@@ -13,5 +13,6 @@ mod terms;
 #[cfg(test)]
 mod tests;
 
+pub use check::is_system_root;
 pub use names::{Constraint, Name, Sign};
 pub use terms::{Children, Equation, Equations, System, Term, Terms};

@@ -2,13 +2,14 @@
 ghost use Rattle.std.specs.Prelude.{◌≡◌, ◌<◌, ◌≤◌, ◌||◌, ◌++◌, length, map, nat_lt, codes, IfOk};
 ghost use Rattle.std.specs.List.{list_all};
 ghost use Rattle.std.specs.Char.{is_ascii_digit};
-ghost use Rattle.av_sys.specs.Terms.{IsSystemRoot, is_root};
+ghost use Rattle.av_sys.specs.Terms.{IsSystemRoot};
 ghost use Rattle.av_print.specs.Text.{word_text, root_text};
 ghost use Rattle.av_check.specs.Claims.{IsPattern, ArePatterns};
 ghost use Rattle.av_check.specs.Reading.{Reads, list_tokens};
 
 use crate::reading::pieces::{after, before, is_none};
-use av_perm::{MAX_PATTERN_LENGTH, MAX_ROOT_LENGTH, Memory, Perm, Words, is_simple};
+use av_perm::{MAX_PATTERN_LENGTH, Memory, Perm, Words};
+use av_sys::is_system_root;
 use av_text::read_word;
 use std::alloc::Global;
 
@@ -111,20 +112,14 @@ fn bracketed_word(token: &[u8]) -> Option<Perm>
     }
 }
 
-/// Whether the word is 12, 21, or simple with at most `MAX_ROOT_LENGTH` entries.
-fn is_root(word: &Perm) -> bool
-    ensures { result ≡ is_root word.now }
-{
-    let entries = word.as_slice();
-    entries == [1, 2].as_slice()
-        || entries == [2, 1].as_slice()
-        || (word.len() <= MAX_ROOT_LENGTH && is_simple(word))
-}
-
 /// The root of a system whose text the token is.
 pub fn root_of(token: &[u8]) -> Option<Perm>
     ensures { Reads IsSystemRoot root_text token.now result }
 {
     let word = bracketed_word(token)?;
-    if is_root(&word) { Some(word) } else { None }
+    if is_system_root(&word) {
+        Some(word)
+    } else {
+        None
+    }
 }
