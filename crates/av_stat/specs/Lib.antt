@@ -1,2 +1,2 @@
--- What the closures of statistics answer, and the words of a lister.
+-- What the closures of statistics return, and the words of a lister.
 pub mod Listed

@@ -3,7 +3,7 @@ ghost use Rattle.std.specs.Prelude.{◌≡◌, ◌<◌, ◌+◌, ◌^◌, ℕ, [
 ghost use Rattle.std.specs.Fn.{FnReturnsAt};
 ghost use Rattle.av_perm.specs.Word.{is_perm};
 ghost use Rattle.av_bars.specs.Histograms.{Tallied, bars};
-ghost use Rattle.av_stat.specs.Listed.{Answers, words_of};
+ghost use Rattle.av_stat.specs.Listed.{ReturnsStatistic, words_of};
 
 use crate::counts::{gather, raise, zeros};
 use crate::stat::Stat;
@@ -15,7 +15,7 @@ use std::alloc::Global;
 // Counts each item that is left in the lister at its value.
 fn tally<F: Fn(&Perm) -> u64>(stat: &Stat<F>, lister: Lister<'_>, counts: &mut [u64])
     requires callable { (shown : _) → IsTrue (is_perm shown.now) → F.pre stat.now.call shown }
-    requires answers { Answers stat.now.kind (FnReturnsAt F.Fn stat.now.call) }
+    requires statistic { ReturnsStatistic stat.now.kind (FnReturnsAt F.Fn stat.now.call) }
     requires few { length lister < 2 ^ 64 }
     requires width { length counts.old ≡ MAX_STATISTIC + 1 }
     requires none { Tallied stat.now.kind counts.old [] }
@@ -35,7 +35,7 @@ pub fn histogram<F: Fn(&Perm) -> u64>(
     lister: Lister<'_>,
 ) -> Result<Bars, Memory>
     requires callable { (shown : _) → IsTrue (is_perm shown.now) → F.pre stat.now.call shown }
-    requires answers { Answers stat.now.kind (FnReturnsAt F.Fn stat.now.call) }
+    requires statistic { ReturnsStatistic stat.now.kind (FnReturnsAt F.Fn stat.now.call) }
     requires few { length lister < 2 ^ 64 }
     ensures { IfOk result (λ b. b ≡ bars stat.now.kind (words_of lister.entry)) }
 {

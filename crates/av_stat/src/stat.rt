@@ -3,7 +3,7 @@ ghost use Rattle.std.specs.Prelude.{◌≡◌, ◌≤◌, ℕ, List, IsTrue};
 ghost use Rattle.std.specs.Fn.{FnReturnsAt};
 ghost use Rattle.av_perm.specs.Word.{is_perm};
 ghost use Rattle.av_perm.specs.Stat.{statistic_of};
-ghost use Rattle.av_stat.specs.Listed.{Answers};
+ghost use Rattle.av_stat.specs.Listed.{ReturnsStatistic};
 
 use av_perm::{MAX_STATISTIC, Perm, StatKind};
 
@@ -17,9 +17,9 @@ fn asked<F: Fn(&Perm) -> u64>(call: &F, word: &Perm) -> u64
     call(word)
 }
 
-/// A statistic: its kind, and a closure that answers it.
+/// A statistic: its kind, and a closure that returns it.
 ///
-/// That the closure may be called on every word, and that it answers the statistic of this kind, is asked at each call, since
+/// That the closure may be called on every word, and that it returns the statistic of this kind, is asked at each call, since
 /// a struct can't keep what it says of a closure's conditions.
 #[derive(Drop)]
 pub struct Stat<F> {
@@ -28,10 +28,10 @@ pub struct Stat<F> {
 }
 
 impl<F: Fn(&Perm) -> u64> Stat<F> {
-    /// The statistic of a kind, answered by a closure.
+    /// The statistic of a kind, returned by a closure.
     pub fn new(kind: StatKind, call: F) -> Stat<F>
         requires callable { (shown : _) → IsTrue (is_perm shown.now) → F.pre call shown }
-        requires answers { Answers kind (FnReturnsAt F.Fn call) }
+        requires statistic { ReturnsStatistic kind (FnReturnsAt F.Fn call) }
         ensures kind { result.kind ≡ kind }
         ensures call { result.call ≡ call }
     {
@@ -41,7 +41,7 @@ impl<F: Fn(&Perm) -> u64> Stat<F> {
     /// The statistic of a word, which is at most `MAX_STATISTIC`.
     pub fn of(&self, word: &Perm) -> u64
         requires callable { (shown : _) → IsTrue (is_perm shown.now) → F.pre self.now.call shown }
-        requires answers { Answers self.now.kind (FnReturnsAt F.Fn self.now.call) }
+        requires statistic { ReturnsStatistic self.now.kind (FnReturnsAt F.Fn self.now.call) }
         ensures value { result ≡ statistic_of self.now.kind word.now }
         ensures few { result ≤ MAX_STATISTIC }
     {
