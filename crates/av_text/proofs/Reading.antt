@@ -17,7 +17,7 @@ use Rattle.av_text.specs.Steps.{◌>>=◌}
 use Rattle.av_text.specs.Lines.{script_lines}
 use Rattle.av_text.specs.Read.{Fault, read, lines_said, line_said, at_line, basis_in, union_line, required_in, format_in, query_in, first_of, script_with}
 use Rattle.av_text.specs.Heard.{unheard, noted, seen_of, script_said}
-use Rattle.av_text.specs.Answers.{GivesScript}
+use Rattle.av_text.specs.Results.{GivesScript}
 use Rattle.av_text.proofs.Kept.{line_kept, line_gave}
 
 -- the first of two union lines, where there is one

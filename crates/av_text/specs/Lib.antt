@@ -8,5 +8,5 @@ pub mod Queries
 pub mod Read
 pub mod Heard
 pub mod Ranges
-pub mod Answers
+pub mod Results
 pub mod Demo

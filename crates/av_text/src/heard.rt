@@ -2,7 +2,7 @@
 ghost use Rattle.std.specs.Prelude.{◌≡◌, OnOk};
 ghost use Rattle.av_text.specs.Read.{unseen, is_short, union_words};
 ghost use Rattle.av_text.specs.Heard.{unheard, noted, seen_of, script_said};
-ghost use Rattle.av_text.specs.Answers.{GivesScript};
+ghost use Rattle.av_text.specs.Results.{GivesScript};
 ghost use Rattle.av_text.specs.Ranges.{AsksInRange};
 
 use crate::Kind;

@@ -1,7 +1,7 @@
 // What a line of a script says.
 ghost use Rattle.std.specs.Prelude.{◌≡◌, map, IfOk};
 ghost use Rattle.av_text.specs.Read.{patterns, patterns_once, basis_said, union_said, require_said, format_said, is_comment, is_basis, is_union, is_require, is_format, tokens_said, line_said};
-ghost use Rattle.av_text.specs.Answers.{Gives};
+ghost use Rattle.av_text.specs.Results.{Gives};
 ghost use Rattle.av_text.specs.Ranges.{AsksInRange};
 
 use crate::Kind;

@@ -3,7 +3,7 @@ ghost use Rattle.std.specs.Prelude.{◌≡◌, ◌<◌, List, [], ◌∷◌, ◌
 ghost use Rattle.av_text.specs.Read.{line_said, at_line, read};
 ghost use Rattle.av_text.specs.Queries.{IsInRange};
 ghost use Rattle.av_text.specs.Ranges.{AsksInRange, KeepsLimits};
-ghost use Rattle.av_text.specs.Answers.{GivesScript};
+ghost use Rattle.av_text.specs.Results.{GivesScript};
 
 use crate::Kind;
 use crate::heard::Heard;

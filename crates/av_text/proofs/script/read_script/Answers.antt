@@ -5,7 +5,7 @@ use Rattle.av_text.specs.declared.script.Script.{Script}
 use Rattle.av_text.specs.declared.script.ScriptError.{ScriptError}
 use Rattle.av_text.specs.Read.{read}
 use Rattle.av_text.specs.Ranges.{KeepsLimits}
-use Rattle.av_text.specs.Answers.{GivesScript}
+use Rattle.av_text.specs.Results.{GivesScript}
 use Rattle.av_text.proofs.Reading.{read_long, read_short, turn, exit_line, exit_end}
 use Rattle.av_text.proofs.Cuts.{lines_few}
 use Rattle.av_text.proofs.Kept.{read_kept}
