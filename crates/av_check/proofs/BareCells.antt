@@ -24,8 +24,8 @@ use Rattle.av_name.specs.declared.constraints.Known.{Known}
 use Rattle.av_name.specs.declared.constraints.Known.TheVariants.{In as Inside}
 use Rattle.av_name.specs.Constraints.{free}
 use Rattle.av_name.proofs.Answered.{outside_is}
-use Rattle.av_split.specs.Split.{Demand, all_of, some_of, demand_known, demands_known, queries_of}
-use Rattle.av_split.specs.Boxes.{Query, Box, child_of, word_rules, ask, queries, demand, demands}
+use Rattle.av_split.specs.Split.{Demand, all_of, some_of, demand_known, demands_known, questions_of}
+use Rattle.av_split.specs.Boxes.{Question, Box, child_of, word_rules, ask, questions, demand, demands}
 use Rattle.av_split.proofs.GenericSplit.{each_inside, each_outside, one_outside, unflipped}
 use Rattle.av_split.proofs.WordSplit.{start_fine, In_ask, demands_each, demands_apt, constant, constant_fibre, nonempty_has}
 use Rattle.av_split.proofs.BoxWords.{FineWith, AptWith, words_law, start_words, fibre_short}
@@ -36,12 +36,12 @@ use Rattle.av_build.proofs.NamesOver.{child_name_In}
 use Rattle.av_build.proofs.ShortNames.{each_all, all_each}
 use Rattle.av_walk.specs.Walk.{Literal, bare, Leaf}
 use Rattle.av_walk.specs.Leaves.{literals, leaves}
-use Rattle.av_walk.proofs.GenericWalk.{queries_with}
+use Rattle.av_walk.proofs.GenericWalk.{questions_with}
 use Rattle.av_check.specs.Verdicts.{leaves_class, is_wrong_name}
 use Rattle.av_check.specs.Laws.{IsWordName}
 use Rattle.av_check.specs.Checks.{AreShort, IsShortName}
 use Rattle.av_check.specs.Outcomes.{IsGrowable}
-use Rattle.av_check.proofs.CellTreatments.{queries_in, IsFair}
+use Rattle.av_check.proofs.CellTreatments.{questions_in, IsFair}
 use Rattle.av_check.proofs.GenericWalk.{walk_leaf}
 use Rattle.av_check.proofs.NameLiterals.{child_each, literals_apt}
 use Rattle.av_check.proofs.RootLeaves.{settled}
@@ -52,20 +52,20 @@ use Rattle.av_check.proofs.TidyNames.{top_same}
 cell_avoids : (π : List ℕ) (A R : List (List ℕ)) (γ : List ℕ) (x : Box) (i : ℕ) → Each IsWord A → In γ A → demands_known (word_rules.answer x) (demands π A R) ≡ Inside → i < length π
     → (a : List ℕ) × In a (child_of x i).avoid × Contains γ a
 cell_avoids π A R γ x i ga inA done hi =
-    let f : Query → Known = word_rules.answer x in
+    let f : Question → Known = word_rules.answer x in
     let d = each_inside (demand_known f) (demands π A R) done (demand π false γ) (append_left (map (demand π false) A) (map (demand π true) R) (demand π false γ) (map_In (demand π false) A γ inA)) in
-    let out = unflipped (some_of (all_of f) (map (queries π γ) (embeddings π γ))) d in
+    let out = unflipped (some_of (all_of f) (map (questions π γ) (embeddings π γ))) d in
     let e : List ℕ = replicate (length γ) (suc i) in
-    let m = each_outside (all_of f) (map (queries π γ) (embeddings π γ)) out (queries π γ e) (map_In (queries π γ) (embeddings π γ) e (embedding_to π γ e (constant π γ i hi))) in
-    let q = one_outside f (queries π γ e) m in
+    let m = each_outside (all_of f) (map (questions π γ) (embeddings π γ)) out (questions π γ e) (map_In (questions π γ) (embeddings π γ) e (embedding_to π γ e (constant π γ i hi))) in
+    let q = one_outside f (questions π γ e) m in
     let j = In_joined (λ n. ask n (fibre γ e (suc n))) (length π) q.0 q.1 in
     let asked = In_ask j.0 (fibre γ e (suc j.0)) q.0 j.2 in
     let item = nonempty_has (fibre γ e (suc j.0)) asked.1 in
     let place = fibre_at γ e (suc j.0) item.0 0 item.1 in
     let here : suc j.0 ≡ suc i = sym place.3 ∙ get_or-replicate (length γ) place.0 (suc i) 0 place.1 in
     let word : pattern_of (fibre γ e (suc j.0)) ≡ γ = ap (λ n. pattern_of (fibre γ e n)) here ∙ ap pattern_of (constant_fibre γ (suc i)) ∙ word_pattern γ (ga γ inA).numbers in
-    let child : q.0.child ≡ i = ap (λ (p : Query). p.child) asked.0 ∙ omega (arith, here) in
-    let text : q.0.word ≡ γ = ap (λ (p : Query). p.word) asked.0 ∙ word in
+    let child : q.0.child ≡ i = ap (λ (p : Question). p.child) asked.0 ∙ omega (arith, here) in
+    let text : q.0.word ≡ γ = ap (λ (p : Question). p.word) asked.0 ∙ word in
     let o = ((outside_is (child_of x q.0.child) q.0.word).0 q.2).1 in
     (o.0, subst (λ n. In o.0 (child_of x n).avoid) child o.1, subst (λ v. Contains v o.0) text o.2)
 
@@ -89,50 +89,50 @@ Short w = length w ≤ MAX_PATTERN_LENGTH
 
 module _ (π : List ℕ) (n : Name) (nss : List (List Name)) (w : IsWord π) (own : IsWordName n) (sized : Each (λ ns. length ns ≡ length π) nss) (words : Each (λ ns. Each IsWordName ns) nss)
     (short : IsShortName n) (shorts : Each (λ ns. Each IsShortName ns) nss) where
-  abbrev ds : List (Demand Query)
+  abbrev ds : List (Demand Question)
   ds = demands π n.avoid n.require
 
-  abbrev ts : List (List (Literal Query))
+  abbrev ts : List (List (Literal Question))
   ts = map (literals 0) nss
 
   abbrev start : Box
   start = replicate (length π) free
 
-  -- the queries of the name have short words
-  own_short : Each (AptWith Short (length π)) (queries_of ds)
+  -- the questions of the name have short words
+  own_short : Each (AptWith Short (length π)) (questions_of ds)
   own_short q i = record {
     apt = demands_apt π n.avoid n.require own.avoids own.requires q i;
-    word = demands_each (λ (x : Query). Short x.word) π n.avoid n.require asked q i;
+    word = demands_each (λ (x : Question). Short x.word) π n.avoid n.require asked q i;
   }
     where
       word_short : (γ : List ℕ) → In γ n.avoid ⊎ In γ n.require → Short γ
       word_short γ (inl j) = all_each Short n.avoid short.avoid γ j
       word_short γ (inr j) = all_each Short n.require short.require γ j
 
-      asked : (γ e : List ℕ) → In γ n.avoid ⊎ In γ n.require → Each (λ (q : Query). Short q.word) (queries π γ e)
+      asked : (γ e : List ℕ) → In γ n.avoid ⊎ In γ n.require → Each (λ (q : Question). Short q.word) (questions π γ e)
       asked γ e o q j =
           let r = In_joined (λ k. ask k (fibre γ e (suc k))) (length π) q j in
           let a = In_ask r.0 (fibre γ e (suc r.0)) q r.2 in
           let l : Short (pattern_of (fibre γ e (suc r.0))) = omega (arith, length_pattern (fibre γ e (suc r.0)), fibre_short γ e (suc r.0), word_short γ o) in
-          subst Short (sym (ap (λ (x : Query). x.word) a.0)) l
+          subst Short (sym (ap (λ (x : Question). x.word) a.0)) l
 
   -- and so have those of the terms
-  literals_short : (i : ℕ) (ns : List Name) → Each IsShortName ns → Each (λ (l : Literal Query). Short l.query.word) (literals i ns)
+  literals_short : (i : ℕ) (ns : List Name) → Each IsShortName ns → Each (λ (l : Literal Question). Short l.question.word) (literals i ns)
   literals_short i [] h l j = absurd j
   literals_short i (m ∷ ns) h l j = elim (In_append_cases _ (literals (suc i) ns) l j) [
     | inl k ↦
         let s = h m (inl refl) in
-        child_each (λ (l : Literal Query). Short l.query.word) i m (λ v g. all_each Short m.avoid s.avoid v g) (λ v g. all_each Short m.require s.require v g) l k
+        child_each (λ (l : Literal Question). Short l.question.word) i m (λ v g. all_each Short m.avoid s.avoid v g) (λ v g. all_each Short m.require s.require v g) l k
     | inr k ↦ literals_short (suc i) ns (λ x p. h x (inr p)) l k
   ]
 
-  all_short : Each (AptWith Short (length π)) (queries_with ds ts)
-  all_short q i = elim (In_append_cases (queries_of ds) (flat_map (queries_in {Q = Query}) ts) q i) [
+  all_short : Each (AptWith Short (length π)) (questions_with ds ts)
+  all_short q i = elim (In_append_cases (questions_of ds) (flat_map (questions_in {Q = Question}) ts) q i) [
     | inl j ↦ own_short q j
     | inr j ↦
-        let r = In_flat_map (queries_in {Q = Query}) ts q j in
+        let r = In_flat_map (questions_in {Q = Question}) ts q j in
         let s = In_map (literals 0) nss r.0 r.1 in
-        let l = In_map (λ (l : Literal Query). l.query) r.0 q r.2 in
+        let l = In_map (λ (l : Literal Question). l.question) r.0 q r.2 in
         let k = subst (In l.0) s.2 l.1 in
         subst (AptWith Short (length π)) (sym l.2) (record {
           apt = literals_apt (length π) 0 s.0 (let e = sized s.0 s.1 in omega arith) (words s.0 s.1) l.0 k;

@@ -1,10 +1,10 @@
--- A cell that ends without a flaw of its own has its terms right. For any kind of query.
+-- A cell that ends without a flaw of its own has its terms right. For any kind of question.
 use Rattle.std.proofs.Common.{◌≡◌, ℕ, zero, suc, ◌≤◌, ◌⊎◌, inl, inr, List, [], ◌∷◌, map, Option, Some, None, refl, sym, ap, ◌∙◌, subst, arith}
 use Rattle.av_perm.specs.Members.{In}
 use Rattle.av_perm.proofs.Membership.{Each, SomeIn}
 use Rattle.av_name.specs.declared.constraints.Known.{Known}
 use Rattle.av_name.specs.declared.constraints.Known.TheVariants.{In as Inside, Out as Outside, Open}
-use Rattle.av_split.specs.Split.{both, all_of, Demand, demands_known, at_open, first_open, next_query}
+use Rattle.av_split.specs.Split.{both, all_of, Demand, demands_known, at_open, first_open, next_question}
 use Rattle.av_split.proofs.GenericSplit.{Apart}
 use Rattle.av_walk.specs.Walk.{Literal, literal_known, term_known, next_of_terms, one_more, inside_count, Ending, good, bare, twice, extra, Treatment, ends, splits, stuck, broken_cell, done_cell, open_cell, treated}
 
@@ -36,9 +36,9 @@ open_picked {X = X} f h (x ∷ xs) e = by (f x) e (open_picked f h xs)
     by Inside p deeper = deeper p
     by Outside p deeper = absurd (let z : Outside ≡ Open = p in cc)
 
--- the queries of a term
-abbrev pub queries_in : {Q : Type 0} → List (Literal Q) → List Q
-queries_in {Q = Q} t = map (λ (l : Literal Q). l.query) t
+-- the questions of a term
+abbrev pub questions_in : {Q : Type 0} → List (Literal Q) → List Q
+questions_in {Q = Q} t = map (λ (l : Literal Q). l.question) t
 
 -- a term that isn't refuted
 abbrev pub Stays : {Q : Type 0} → (Q → Known) → List (Literal Q) → Type 0
@@ -122,7 +122,7 @@ good_is_not_bare e = cc
 module _ {Q : Type 0} (f : Q → Known) (ds : List (Demand Q)) (ts : List (List (Literal Q))) where
   -- no term is open where none is asked
   none_open : next_of_terms f ts ≡ None → Each (λ t. term_known f t ≡ Open → ⊥) ts
-  none_open e = first_open_none (term_known f) (λ (t : List (Literal Q)). first_open (literal_known f) (λ (l : Literal Q). Some l.query) t) ts (λ t h. open_picked (literal_known f) (λ (l : Literal Q). l.query) t h) e
+  none_open e = first_open_none (term_known f) (λ (t : List (Literal Q)). first_open (literal_known f) (λ (l : Literal Q). Some l.question) t) ts (λ t h. open_picked (literal_known f) (λ (l : Literal Q). l.question) t h) e
 
   all_refuted : inside_count f ts ≡ 0 → next_of_terms f ts ≡ None → Each (λ t. term_known f t ≡ Outside) ts
   all_refuted c e t i = is_outside (term_known f t) (none_open e t i) (none_inside f ts c t i)
@@ -159,10 +159,10 @@ module _ {Q : Type 0} (f : Q → Known) (ds : List (Demand Q)) (ts : List (List 
   open_ends (Some p) x q = let z : (let t : Treatment Q = splits p in t) ≡ ends x = q in cc
 
   -- a cell that ends without a flaw of its own is settled
-  pub ends_settled : (x : Ending) → IsFair x → treated (demands_known f ds) (inside_count f ts) (next_of_terms f ts) (next_query f ds) ≡ ends x → IsSettled f ds ts x
+  pub ends_settled : (x : Ending) → IsFair x → treated (demands_known f ds) (inside_count f ts) (next_of_terms f ts) (next_question f ds) ≡ ends x → IsSettled f ds ts x
   ends_settled x fair q = by (demands_known f ds) refl q
     where
-      by : (k : Known) → demands_known f ds ≡ k → treated k (inside_count f ts) (next_of_terms f ts) (next_query f ds) ≡ ends x → IsSettled f ds ts x
+      by : (k : Known) → demands_known f ds ≡ k → treated k (inside_count f ts) (next_of_terms f ts) (next_question f ds) ≡ ends x → IsSettled f ds ts x
       by Outside e q = broken_ends (inside_count f ts) (next_of_terms f ts) x refl refl e fair q
       by Inside e q = done_ends (inside_count f ts) (next_of_terms f ts) x refl refl e fair q
-      by Open e q = absurd (open_ends (next_query f ds) x q)
+      by Open e q = absurd (open_ends (next_question f ds) x q)

@@ -14,13 +14,13 @@ use Rattle.av_sys.specs.declared.terms.System.{System}
 use Rattle.av_sys.proofs.Subtrees.{IsEquation}
 use Rattle.av_name.specs.Constraints.{free}
 use Rattle.av_split.specs.Split.{Demand}
-use Rattle.av_split.specs.Boxes.{Query, Box, word_rules, demands, boxes}
+use Rattle.av_split.specs.Boxes.{Question, Box, word_rules, demands, boxes}
 use Rattle.av_split.proofs.WordSplit.{Apt, demands_apt}
 use Rattle.av_build.specs.Drafts.{child_names}
 use Rattle.av_build.specs.Canonical.{same_name, grow_from, grown_size, as_system}
 use Rattle.av_build.proofs.NameNumbers.{name_refl}
 use Rattle.av_build.proofs.Growing.{Canonical, canonical, get_In, grow_each, equation_at}
-use Rattle.av_walk.specs.Walk.{Literal, good, bare, Leaf, walk, walk_queries}
+use Rattle.av_walk.specs.Walk.{Literal, good, bare, Leaf, walk, walk_questions}
 use Rattle.av_walk.specs.Leaves.{literals, leaves}
 use Rattle.av_check.specs.declared.fault.Fault.{Fault}
 use Rattle.av_check.specs.declared.fault.Fault.TheVariants as faults
@@ -44,9 +44,9 @@ pub box_leaves : (root : List ℕ) (n : Name) (first : Sign) (keep : Box → Boo
     → (l.ending ≡ good) ⊎ ((l.ending ≡ bare) × (keep l.cell ≡ false) × In l.cell (boxes root n.avoid n.require))
 box_leaves root n first keep ga gr l i =
     let bs : List Box = boxes root n.avoid n.require in
-    let ds : List (Demand Query) = demands root n.avoid n.require in
+    let ds : List (Demand Question) = demands root n.avoid n.require in
     let start : Box = replicate (length root) free in
-    let ts : List (List (Literal Query)) = map (box_term first) (filter keep bs) in
+    let ts : List (List (Literal Question)) = map (box_term first) (filter keep bs) in
     let amid : IsAmid word_rules (IsLong (length root)) (Apt (length root)) (long_law (length root)) ds (demands_apt root n.avoid n.require ga gr) (box_term first) Marks (word_tell (length root) first) keep bs start = record {
       before = [];
       after = [];
@@ -56,7 +56,7 @@ box_leaves root n first keep ga gr l i =
       after_out = λ x k. absurd k;
     } in
     (walk_fits word_rules (IsLong (length root)) (Apt (length root)) (long_law (length root)) ds (demands_apt root n.avoid n.require ga gr) (box_term first) Marks (word_tell (length root) first) keep bs
-    (walk_queries ds ts) start l (start_long (length root)) amid (subst (λ x. In l (walk word_rules ds x start)) (terms_of_boxes first (filter keep bs)) i)).ending
+    (walk_questions ds ts) start l (start_long (length root)) amid (subst (λ x. In l (walk word_rules ds x start)) (terms_of_boxes first (filter keep bs)) i)).ending
 
 -- where all are kept each leaf is good
 keep_all : (bs : List Box) → filter (λ (b : Box). true) bs ≡ bs

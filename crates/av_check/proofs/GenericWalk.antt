@@ -1,4 +1,4 @@
--- The walk, for any kind of box and query: by induction over its cells, what each of its leaves is, and that what lies in the
+-- The walk, for any kind of box and question: by induction over its cells, what each of its leaves is, and that what lies in the
 -- first box lies in one leaf and in no two.
 use Rattle.std.proofs.Common.{◌≡◌, ℕ, zero, suc, ◌<◌, ◌≤◌, ◌⊎◌, inl, inr, List, [], ◌∷◌, ◌++◌, Bool, true, false, refl, sym, subst, arith}
 use Rattle.av_perm.specs.Members.{In}
@@ -7,14 +7,14 @@ use Rattle.av_name.specs.declared.constraints.Known.TheVariants.{Open}
 use Rattle.av_split.specs.Split.{Demand, Rules}
 use Rattle.av_split.proofs.GenericSplit.{Lawful, Meant, Apart, Apart_append}
 use Rattle.av_walk.specs.Walk.{Literal, Ending, ends, splits, treatment, Leaf, walk}
-use Rattle.av_walk.proofs.GenericWalk.{queries_with, splits_asked, never_stuck, treatment_cases, open_in, falls, walk_leaf_only, walk_parts}
+use Rattle.av_walk.proofs.GenericWalk.{questions_with, splits_asked, never_stuck, treatment_cases, open_in, falls, walk_leaf_only, walk_parts}
 use Rattle.av_check.proofs.CellTreatments.{IsSettled, IsFair, ends_settled}
 
--- a box that is split, at an open query of those that there are
+-- a box that is split, at an open question of those that there are
 pub record IsCut {B Q : Type 0} (r : Rules B Q) (ds : List (Demand Q)) (ts : List (List (Literal Q))) (b : B) (q : Q) : Type 0 where
   pub treated : treatment r ds ts b ≡ splits q
   pub unknown : r.answer b q ≡ Open
-  pub there : In q (queries_with ds ts)
+  pub there : In q (questions_with ds ts)
 
 -- the leaf of a box that ends
 abbrev pub leaf_of : {B : Type 0} → B → Ending → Leaf B
@@ -29,8 +29,8 @@ module _ {B Q : Type 0} (r : Rules B Q) (ds : List (Demand Q)) (ts : List (List 
     | inr (inr k) ↦ absurd (never_stuck (r.answer b) ds ts k)
   ]
 
-module _ {B Q : Type 0} (r : Rules B Q) (Fine : B → Type 0) (Apt : Q → Type 0) (law : Lawful r Fine Apt) (ds : List (Demand Q)) (ts : List (List (Literal Q))) (apt : Each Apt (queries_with ds ts)) where
-  -- a part of a box that is split has fewer open queries, and is fine
+module _ {B Q : Type 0} (r : Rules B Q) (Fine : B → Type 0) (Apt : Q → Type 0) (law : Lawful r Fine Apt) (ds : List (Demand Q)) (ts : List (List (Literal Q))) (apt : Each Apt (questions_with ds ts)) where
+  -- a part of a box that is split has fewer open questions, and is fine
   fewer : (w : Bool) (b : B) (q : Q) → Fine b → IsCut r ds ts b q → open_in r Fine Apt law ds ts apt (r.settle w b q) < open_in r Fine Apt law ds ts apt b
   fewer w b q f c = falls r Fine Apt law ds ts apt w b q f c.there c.unknown
 
@@ -55,7 +55,7 @@ module _ {B Q : Type 0} (r : Rules B Q) (Fine : B → Type 0) (Apt : Q → Type 
         (walk_induct P given cut d (r.settle true b k.0) (part_fine true b k.0 f k.1) (omega (arith, fewer true b k.0 f k.1))))
   ]
 
-  -- with as many steps as it has open queries
+  -- with as many steps as it has open questions
   leaves_induct : (P : B → List (Leaf B) → Type 0) → ((b : B) (x : Ending) → Fine b → treatment r ds ts b ≡ ends x → P b (leaf_of b x ∷ []))
       → ((b : B) (q : Q) (xs ys : List (Leaf B)) → Fine b → IsCut r ds ts b q → P (r.settle false b q) xs → P (r.settle true b q) ys → P b (xs ++ ys))
       → (b : B) → Fine b → P b (walk r ds ts b)

@@ -1,5 +1,5 @@
 -- The walk over terms that are the boxes of the split, or some of them: each leaf is good, or it is one of the boxes that
--- were left out, and bare. For any kind of box and query.
+-- were left out, and bare. For any kind of box and question.
 use Rattle.std.proofs.Common.{◌≡◌, ℕ, zero, suc, ◌⊎◌, inl, inr, List, [], ◌∷◌, ◌++◌, map, filter, Bool, true, false, not, cond, Option, Some, None, refl, sym, ap, ap₂, ◌∙◌, subst, append_assoc}
 use Rattle.std.proofs.lemmas.Bool.{cases_Bool}
 use Rattle.std.proofs.lemmas.List.{map-append}
@@ -8,7 +8,7 @@ use Rattle.av_perm.specs.Members.{In}
 use Rattle.av_perm.proofs.Membership.{Each, In_one, In_append_cases, append_left, append_right, In_map, In_filter}
 use Rattle.av_name.specs.declared.constraints.Known.{Known}
 use Rattle.av_name.specs.declared.constraints.Known.TheVariants.{In as Inside, Out as Outside, Open}
-use Rattle.av_split.specs.Split.{Demand, demands_known, at_open, first_open, next_query, Rules, queries_of, boxes_by}
+use Rattle.av_split.specs.Split.{Demand, demands_known, at_open, first_open, next_question, Rules, questions_of, boxes_by}
 use Rattle.av_split.proofs.GenericSplit.{Lawful, Asks, asks, known_cases, boxes_induct, boxes_outside, boxes_inside, boxes_more}
 use Rattle.av_walk.specs.Walk.{Literal, literal_known, term_known, next_of_terms, one_more, inside_count, Ending, good, bare, ends, splits, treated, treatment, Leaf, leaves_by, walk_by}
 use Rattle.av_check.proofs.GenericWalk.{leaf_of}
@@ -38,7 +38,7 @@ none_picked f g (x ∷ xs) h = by (f x) refl (none_picked f g xs (λ y i. h y (i
     by Outside e d = d
 
 -- what the boxes and their terms are to each other: a box's own term is inside, a refuted term stays so, and a box below one
--- part of a split is refuted in the other. `Marks` says that a box avoids a query (`false`) or requires it (`true`)
+-- part of a split is refuted in the other. `Marks` says that a box avoids a question (`false`) or requires it (`true`)
 pub record Telling {B Q : Type 0} (r : Rules B Q) (Fine : B → Type 0) (Apt : Q → Type 0) (term_of : B → List (Literal Q)) (Marks : Bool → Q → B → Type 0) : Type 0 where
   pub own : (b : B) → Fine b → term_known (r.answer b) (term_of b) ≡ Inside
   pub stays : (w : Bool) (b x : B) (q : Q) → Fine b → Fine x → Apt q → r.answer b q ≡ Open → Refuted (r.answer b) (term_of x) → Refuted (r.answer (r.settle w b q)) (term_of x)
@@ -46,7 +46,7 @@ pub record Telling {B Q : Type 0} (r : Rules B Q) (Fine : B → Type 0) (Apt : Q
   pub keeps : (w s : Bool) (b : B) (q p : Q) → Fine b → Apt q → Apt p → r.answer b q ≡ Open → Marks s p b → Marks s p (r.settle w b q)
   pub refutes : (w : Bool) (b x : B) (q : Q) → Fine b → Fine x → Apt q → r.answer b q ≡ Open → Marks w q x → Refuted (r.answer (r.settle (not w) b q)) (term_of x)
 
-module _ {B Q : Type 0} (r : Rules B Q) (Fine : B → Type 0) (Apt : Q → Type 0) (law : Lawful r Fine Apt) (ds : List (Demand Q)) (apt : Each Apt (queries_of ds))
+module _ {B Q : Type 0} (r : Rules B Q) (Fine : B → Type 0) (Apt : Q → Type 0) (law : Lawful r Fine Apt) (ds : List (Demand Q)) (apt : Each Apt (questions_of ds))
     (term_of : B → List (Literal Q)) (Marks : Bool → Q → B → Type 0) (tell : Telling r Fine Apt term_of Marks) where
   -- a part of a box that asks is fine
   part_fine : (w : Bool) (b : B) (q : Q) → Fine b → Asks r ds b q → Fine (r.settle w b q)
@@ -89,11 +89,11 @@ module _ {B Q : Type 0} (r : Rules B Q) (Fine : B → Type 0) (Apt : Q → Type 
     one_leaf (suc d) b x l e i = In_one l (leaf_of b x) (subst (In l) (ap (λ t. leaves_by t b (λ q. walk_by r ds kept_terms d (r.settle false b q) ++ walk_by r ds kept_terms d (r.settle true b q))) e) i)
 
     -- what becomes of a box, by what is known of it
-    treated_is : (b : B) (k : Known) (c : ℕ) (o n : Option Q) → demands_known (r.answer b) ds ≡ k → inside_count (r.answer b) kept_terms ≡ c → next_of_terms (r.answer b) kept_terms ≡ o → next_query (r.answer b) ds ≡ n
+    treated_is : (b : B) (k : Known) (c : ℕ) (o n : Option Q) → demands_known (r.answer b) ds ≡ k → inside_count (r.answer b) kept_terms ≡ c → next_of_terms (r.answer b) kept_terms ≡ o → next_question (r.answer b) ds ≡ n
         → treatment r ds kept_terms b ≡ treated k c o n
     treated_is b k c o n e f g h =
-        ap (λ x. treated x (inside_count (r.answer b) kept_terms) (next_of_terms (r.answer b) kept_terms) (next_query (r.answer b) ds)) e
-        ∙ ap₂ (λ x y. treated k x y (next_query (r.answer b) ds)) f g
+        ap (λ x. treated x (inside_count (r.answer b) kept_terms) (next_of_terms (r.answer b) kept_terms) (next_question (r.answer b) ds)) e
+        ∙ ap₂ (λ x y. treated k x y (next_question (r.answer b) ds)) f g
         ∙ ap (λ x. treated k c o x) h
 
     -- the kept boxes are those below a box, and others that are refuted in it
@@ -105,12 +105,12 @@ module _ {B Q : Type 0} (r : Rules B Q) (Fine : B → Type 0) (Apt : Q → Type 
       pub before_out : Each (IsOut b) before
       pub after_out : Each (IsOut b) after
 
-    -- how many terms are inside, and the next query of those that are open
+    -- how many terms are inside, and the next question of those that are open
     abbrev Counts : B → ℕ → Type 0
     Counts b c = (inside_count (r.answer b) kept_terms ≡ c) × (next_of_terms (r.answer b) kept_terms ≡ None)
 
     none_asked : (b : B) → Each (λ t. term_known (r.answer b) t ≡ Open → ⊥) kept_terms → next_of_terms (r.answer b) kept_terms ≡ None
-    none_asked b = none_picked (term_known (r.answer b)) (λ (t : List (Literal Q)). first_open (literal_known (r.answer b)) (λ (l : Literal Q). Some l.query) t) kept_terms
+    none_asked b = none_picked (term_known (r.answer b)) (λ (t : List (Literal Q)). first_open (literal_known (r.answer b)) (λ (l : Literal Q). Some l.question) t) kept_terms
 
     out_not_open : (b : B) (t : List (Literal Q)) → Refuted (r.answer b) t → term_known (r.answer b) t ≡ Open → ⊥
     out_not_open b t h e = let z : Outside ≡ Open = sym h ∙ e in cc
@@ -191,16 +191,16 @@ module _ {B Q : Type 0} (r : Rules B Q) (Fine : B → Type 0) (Apt : Q → Type 
     box_fits d b l f a i below = elim (known_cases (demands_known (r.answer b) ds)) [
       | inl k ↦
           let o = amid_none b a (ap (filter keep) (boxes_outside r Fine Apt law ds apt b k)) in
-          end_leaf b good l f (one_leaf d b good l (treated_is b Outside 0 None (next_query (r.answer b) ds) k o.0 o.1 refl) i) (inl refl)
+          end_leaf b good l f (one_leaf d b good l (treated_is b Outside 0 None (next_question (r.answer b) ds) k o.0 o.1 refl) i) (inl refl)
       | inr (inl k) ↦
           let here : filter keep (boxes_by r ds b) ≡ filter keep (b ∷ []) = ap (filter keep) (boxes_inside r Fine Apt law ds apt b k) in
           elim (cases_Bool (keep b)) [
             | inl t ↦
                 let o = amid_one b f a (here ∙ filter_one b true t) in
-                end_leaf b good l f (one_leaf d b good l (treated_is b Inside 1 None (next_query (r.answer b) ds) k o.0 o.1 refl) i) (inl refl)
+                end_leaf b good l f (one_leaf d b good l (treated_is b Inside 1 None (next_question (r.answer b) ds) k o.0 o.1 refl) i) (inl refl)
             | inr t ↦
                 let o = amid_none b a (here ∙ filter_one b false t) in
-                end_leaf b bare l f (one_leaf d b bare l (treated_is b Inside 0 None (next_query (r.answer b) ds) k o.0 o.1 refl) i) (inr (refl, t, a.listed b (subst (In b) (sym (boxes_inside r Fine Apt law ds apt b k)) (inl refl))))
+                end_leaf b bare l f (one_leaf d b bare l (treated_is b Inside 0 None (next_question (r.answer b) ds) k o.0 o.1 refl) i) (inr (refl, t, a.listed b (subst (In b) (sym (boxes_inside r Fine Apt law ds apt b k)) (inl refl))))
           ]
       | inr (inr k) ↦
           let n = asks r ds b k in

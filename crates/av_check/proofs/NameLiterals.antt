@@ -11,7 +11,7 @@ use Rattle.av_sys.specs.declared.terms.System.{System}
 use Rattle.av_sys.specs.Names.{Meets}
 use Rattle.av_sys.specs.Exact.{MeansOf}
 use Rattle.av_name.specs.declared.constraints.Known.TheVariants.{In as Inside, Out as Outside}
-use Rattle.av_split.specs.Boxes.{Query, Box, word_rules}
+use Rattle.av_split.specs.Boxes.{Question, Box, word_rules}
 use Rattle.av_split.proofs.GenericSplit.{MetIf, turned_says, each_inside, one_outside}
 use Rattle.av_split.proofs.WordSplit.{Fine, Apt, Lies, Holds, word_meant}
 use Rattle.av_build.proofs.TermLaws.{MeanAt}
@@ -20,8 +20,8 @@ use Rattle.av_walk.specs.Leaves.{asks, child_literals, literals, name_of_equatio
 use Rattle.av_check.specs.Laws.{IsWordName}
 
 -- a literal holds of blocks
-abbrev pub LiteralHolds : List (List ℕ) → Literal Query → Type 0
-LiteralHolds αs l = MetIf l.required (Holds αs l.query)
+abbrev pub LiteralHolds : List (List ℕ) → Literal Question → Type 0
+LiteralHolds αs l = MetIf l.required (Holds αs l.question)
 
 -- the blocks from number i on avoid and contain what the names ask
 abbrev pub Covers : List (List ℕ) → ℕ → List Name → Type 0
@@ -29,7 +29,7 @@ Covers αs i [] = Unit {0}
 Covers αs i (n ∷ ns) = Meets n.avoid n.require (block αs i) × Covers αs (suc i) ns
 
 -- what holds of the literals of each word of a name holds of all of its literals
-pub child_each : (P : Literal Query → Type 0) (i : ℕ) (n : Name) → Each (λ w. P (asks false i w)) n.avoid → Each (λ w. P (asks true i w)) n.require → Each P (child_literals i n)
+pub child_each : (P : Literal Question → Type 0) (i : ℕ) (n : Name) → Each (λ w. P (asks false i w)) n.avoid → Each (λ w. P (asks true i w)) n.require → Each P (child_literals i n)
 child_each P i n a r l k = elim (In_append_cases (map (asks false i) (in_shortlex n.avoid)) (map (asks true i) (in_shortlex n.require)) l k) [
   | inl j ↦ let s = In_map (asks false i) (in_shortlex n.avoid) l j in subst P (sym s.2) (a s.0 (shortlex_In n.avoid s.0 s.1))
   | inr j ↦ let s = In_map (asks true i) (in_shortlex n.require) l j in subst P (sym s.2) (r s.0 (shortlex_In n.require s.0 s.1))
@@ -60,29 +60,29 @@ module _ (αs : List (List ℕ)) where
         hold_covers (suc i) ns (λ l k. h l (append_right (child_literals i n) (literals (suc i) ns) l k)),
       )
 
--- the queries are of the children
-pub literals_apt : (k i : ℕ) (ns : List Name) → i + length ns ≤ k → Each IsWordName ns → Each (λ (l : Literal Query). Apt k l.query) (literals i ns)
+-- the questions are of the children
+pub literals_apt : (k i : ℕ) (ns : List Name) → i + length ns ≤ k → Each IsWordName ns → Each (λ (l : Literal Question). Apt k l.question) (literals i ns)
 literals_apt k i [] h w l j = absurd j
 literals_apt k i (n ∷ ns) h w l j = elim (In_append_cases (child_literals i n) (literals (suc i) ns) l j) [
   | inl m ↦
       let own = w n (inl refl) in
-      child_each (λ (l : Literal Query). Apt k l.query) i n (λ v g. record { child = omega arith; word = own.avoids v g }) (λ v g. record { child = omega arith; word = own.requires v g }) l m
+      child_each (λ (l : Literal Question). Apt k l.question) i n (λ v g. record { child = omega arith; word = own.avoids v g }) (λ v g. record { child = omega arith; word = own.requires v g }) l m
   | inr m ↦ literals_apt k (suc i) ns (omega arith) (λ x p. w x (inr p)) l m
 ]
 
 module _ (k : ℕ) (αs : List (List ℕ)) (filled : (i : ℕ) → i < k → 1 ≤ length (block αs i)) (b : Box) (fine : Fine k b) (lies : Lies k αs b) where
   -- what is known of a literal in a box is true of what lies there
-  literal_says : (l : Literal Query) → Apt k l.query → (literal_known (word_rules.answer b) l ≡ Inside → LiteralHolds αs l) × (literal_known (word_rules.answer b) l ≡ Outside → LiteralHolds αs l → ⊥)
+  literal_says : (l : Literal Question) → Apt k l.question → (literal_known (word_rules.answer b) l ≡ Inside → LiteralHolds αs l) × (literal_known (word_rules.answer b) l ≡ Outside → LiteralHolds αs l → ⊥)
   literal_says l a =
-      let s = (word_meant k αs filled).says b l.query fine a lies in
-      turned_says l.required (word_rules.answer b l.query) (Holds αs l.query) s.inside s.outside
+      let s = (word_meant k αs filled).says b l.question fine a lies in
+      turned_says l.required (word_rules.answer b l.question) (Holds αs l.question) s.inside s.outside
 
   -- a term that is inside holds
-  pub inside_holds : (t : List (Literal Query)) → Each (λ (l : Literal Query). Apt k l.query) t → term_known (word_rules.answer b) t ≡ Inside → Each (LiteralHolds αs) t
+  pub inside_holds : (t : List (Literal Question)) → Each (λ (l : Literal Question). Apt k l.question) t → term_known (word_rules.answer b) t ≡ Inside → Each (LiteralHolds αs) t
   inside_holds t a e l i = (literal_says l (a l i)).0 (each_inside (literal_known (word_rules.answer b)) t e l i)
 
   -- a term that holds isn't refuted
-  pub holds_stays : (t : List (Literal Query)) → Each (λ (l : Literal Query). Apt k l.query) t → Each (LiteralHolds αs) t → term_known (word_rules.answer b) t ≡ Outside → ⊥
+  pub holds_stays : (t : List (Literal Question)) → Each (λ (l : Literal Question). Apt k l.question) t → Each (LiteralHolds αs) t → term_known (word_rules.answer b) t ≡ Outside → ⊥
   holds_stays t a h e = let r = one_outside (literal_known (word_rules.answer b)) t e in (literal_says r.0 (a r.0 r.1)).1 r.2 (h r.0 r.1)
 
 -- a word that means the name of an equation meets its lists

@@ -10,16 +10,16 @@ use Rattle.av_sys.specs.declared.names.Name.{Name}
 use Rattle.av_sys.specs.Names.{Meets}
 use Rattle.av_name.specs.declared.constraints.Known.TheVariants.{In as Inside}
 use Rattle.av_name.specs.Constraints.{free}
-use Rattle.av_split.specs.Split.{Demand, demands_known, queries_of}
-use Rattle.av_split.specs.Boxes.{Query, Box, word_rules, demands}
+use Rattle.av_split.specs.Split.{Demand, demands_known, questions_of}
+use Rattle.av_split.specs.Boxes.{Question, Box, word_rules, demands}
 use Rattle.av_split.proofs.GenericSplit.{Met, Says, Apart, demands_say}
 use Rattle.av_split.proofs.WordSplit.{Fine, Apt, Lies, Holds, word_law, word_meant, demands_apt, start_fine, met_meets, free_lies}
 use Rattle.av_build.proofs.DraftsApart.{apart_same}
 use Rattle.av_walk.specs.Walk.{Literal, term_known, bare, Leaf}
 use Rattle.av_walk.specs.Leaves.{literals, leaves}
-use Rattle.av_walk.proofs.GenericWalk.{queries_with}
+use Rattle.av_walk.proofs.GenericWalk.{questions_with}
 use Rattle.av_check.specs.Laws.{IsWordName, PartLaw}
-use Rattle.av_check.proofs.CellTreatments.{queries_in, Stays, IsSettled, IsFair}
+use Rattle.av_check.proofs.CellTreatments.{questions_in, Stays, IsSettled, IsFair}
 use Rattle.av_check.proofs.GenericWalk.{IsLeaf, walk_leaf, leaf_settled, walk_covers, leaves_apart}
 use Rattle.av_check.proofs.NameLiterals.{Covers, covers_hold, hold_covers, literals_apt, inside_holds, holds_stays}
 
@@ -32,29 +32,29 @@ apart_back P R f (x ∷ xs) h a = (
 )
 
 module _ (π : List ℕ) (n : Name) (nss : List (List Name)) (w : IsWord π) (own : IsWordName n) (sized : Each (λ ns. length ns ≡ length π) nss) (words : Each (λ ns. Each IsWordName ns) nss) where
-  abbrev ds : List (Demand Query)
+  abbrev ds : List (Demand Question)
   ds = demands π n.avoid n.require
 
-  abbrev ts : List (List (Literal Query))
+  abbrev ts : List (List (Literal Question))
   ts = map (literals 0) nss
 
   abbrev start : Box
   start = replicate (length π) free
 
-  -- the queries of the name and of the terms are of the children
-  own_apt : Each (Apt (length π)) (queries_of ds)
+  -- the questions of the name and of the terms are of the children
+  own_apt : Each (Apt (length π)) (questions_of ds)
   own_apt = demands_apt π n.avoid n.require own.avoids own.requires
 
-  term_apt : (ns : List Name) → In ns nss → Each (λ (l : Literal Query). Apt (length π) l.query) (literals 0 ns)
+  term_apt : (ns : List Name) → In ns nss → Each (λ (l : Literal Question). Apt (length π) l.question) (literals 0 ns)
   term_apt ns i = literals_apt (length π) 0 ns (let e = sized ns i in omega arith) (words ns i)
 
-  all_apt : Each (Apt (length π)) (queries_with ds ts)
-  all_apt q i = elim (In_append_cases (queries_of ds) (flat_map (queries_in {Q = Query}) ts) q i) [
+  all_apt : Each (Apt (length π)) (questions_with ds ts)
+  all_apt q i = elim (In_append_cases (questions_of ds) (flat_map (questions_in {Q = Question}) ts) q i) [
     | inl j ↦ own_apt q j
     | inr j ↦
-        let r = In_flat_map (queries_in {Q = Query}) ts q j in
+        let r = In_flat_map (questions_in {Q = Question}) ts q j in
         let s = In_map (literals 0) nss r.0 r.1 in
-        let l = In_map (λ (l : Literal Query). l.query) r.0 q r.2 in
+        let l = In_map (λ (l : Literal Question). l.question) r.0 q r.2 in
         subst (Apt (length π)) (sym l.2) (term_apt s.0 s.1 l.0 (subst (In l.0) s.2 l.1))
   ]
 

@@ -16,7 +16,7 @@ use Rattle.av_name.specs.Constraints.{free, answer}
 use Rattle.av_name.proofs.Answered.{inside_is, outside_is, open_is}
 use Rattle.av_name.proofs.Growth.{IsFit, avoid_has, require_has}
 use Rattle.av_split.specs.Split.{both, turned, all_of}
-use Rattle.av_split.specs.Boxes.{Query, Box, child_of, added, word_rules}
+use Rattle.av_split.specs.Boxes.{Question, Box, child_of, added, word_rules}
 use Rattle.av_split.specs.Marks.{once, side}
 use Rattle.av_split.specs.Laws.{IsTidy}
 use Rattle.av_split.proofs.GenericSplit.{Lawful, one_outside, both_out}
@@ -43,7 +43,7 @@ words_of true c = c.require
 words_of false c = c.avoid
 
 -- the literals of a box
-abbrev pub box_term : Sign → Box → List (Literal Query)
+abbrev pub box_term : Sign → Box → List (Literal Question)
 box_term first box = literals 0 (child_names first box)
 
 -- the signs don't matter
@@ -52,14 +52,14 @@ plain first i [] = refl
 plain first i (c ∷ box) = refl
 
 -- what holds of the literals of each word of each constraint holds of all
-each_from : (P : Literal Query → Type 0) (i : ℕ) (box : Box) → ((w : Bool) (j : ℕ) → j < length box → Each (λ a. P (asks w (i + j) a)) (words_of w (child_of box j))) → Each P (literals i (map (name_of C) box))
+each_from : (P : Literal Question → Type 0) (i : ℕ) (box : Box) → ((w : Bool) (j : ℕ) → j < length box → Each (λ a. P (asks w (i + j) a)) (words_of w (child_of box j))) → Each P (literals i (map (name_of C) box))
 each_from P i [] h l k = absurd k
 each_from P i (c ∷ box) h l k = elim (In_append_cases (child_literals i (name_of C c)) (literals (suc i) (map (name_of C) box)) l k) [
   | inl j ↦ let n : i + 0 ≡ i = omega arith in child_each P i (name_of C c) (λ a m. subst (λ x. P (asks false x a)) n (h false 0 (omega arith) a m)) (λ a m. subst (λ x. P (asks true x a)) n (h true 0 (omega arith) a m)) l j
   | inr j ↦ each_from P (suc i) box (λ w m g a t. let n : i + suc m ≡ suc i + m = omega arith in subst (λ x. P (asks w x a)) n (h w (suc m) (omega arith) a t)) l j
 ]
 
-pub box_each : (P : Literal Query → Type 0) (first : Sign) (box : Box) → ((w : Bool) (j : ℕ) → j < length box → Each (λ a. P (asks w j a)) (words_of w (child_of box j))) → Each P (box_term first box)
+pub box_each : (P : Literal Question → Type 0) (first : Sign) (box : Box) → ((w : Bool) (j : ℕ) → j < length box → Each (λ a. P (asks w j a)) (words_of w (child_of box j))) → Each P (box_term first box)
 box_each P first box h l i = each_from P 0 box (λ w j g a m. let n : j ≡ 0 + j = omega arith in subst (λ x. P (asks w x a)) n (h w j g a m)) l (subst (In l) (plain first 0 box) i)
 
 -- and these literals are among them
@@ -157,8 +157,8 @@ refuted_known true k e o = let z : Open ≡ Outside = sym o ∙ e in cc
 refuted_known false k e o = let z : Open ≡ Outside = ap (turned false) (sym o) ∙ e in cc
 
 module _ (k : ℕ) where
-  -- what is known of a query in a box stays
-  answer_stays : (w : Bool) (b : Box) (q p : Query) (m : Known) → IsLong k b → Apt k q → word_rules.answer b q ≡ Open → (m ≡ Open → ⊥) → word_rules.answer b p ≡ m → word_rules.answer (word_rules.settle w b q) p ≡ m
+  -- what is known of a question in a box stays
+  answer_stays : (w : Bool) (b : Box) (q p : Question) (m : Known) → IsLong k b → Apt k q → word_rules.answer b q ≡ Open → (m ≡ Open → ⊥) → word_rules.answer b p ≡ m → word_rules.answer (word_rules.settle w b q) p ≡ m
   answer_stays w b q p m f a o n e =
       let c : Constraint = child_of b q.child in
       changed_child (λ d. answer d p.word ≡ m) k b q.child p.child (added w c q.word) f.fine a.child (λ s.
@@ -167,19 +167,19 @@ module _ (k : ℕ) where
       ∙ once_settled w (stands w p.word q.word) m n) e
 
   -- so a refuted term stays so
-  term_stays : (w : Bool) (b : Box) (q : Query) (t : List (Literal Query)) → IsLong k b → Apt k q → word_rules.answer b q ≡ Open → Refuted (word_rules.answer b) t → Refuted (word_rules.answer (word_rules.settle w b q)) t
+  term_stays : (w : Bool) (b : Box) (q : Question) (t : List (Literal Question)) → IsLong k b → Apt k q → word_rules.answer b q ≡ Open → Refuted (word_rules.answer b) t → Refuted (word_rules.answer (word_rules.settle w b q)) t
   term_stays w b q t f a o e =
       let r = one_outside (literal_known (word_rules.answer b)) t e in
-      let l : Literal Query = r.0 in
+      let l : Literal Question = r.0 in
       all_is_outside (literal_known (word_rules.answer (word_rules.settle w b q))) t l r.1
-      (ap (turned l.required) (answer_stays w b q l.query (word_rules.answer b l.query) f a o (refuted_known l.required (word_rules.answer b l.query) r.2) refl) ∙ r.2)
+      (ap (turned l.required) (answer_stays w b q l.question (word_rules.answer b l.question) f a o (refuted_known l.required (word_rules.answer b l.question) r.2) refl) ∙ r.2)
 
 -- a constraint avoids a word within the word, or requires one around it
 abbrev pub HasMark : Bool → List ℕ → Constraint → Type 0
 HasMark w p c = (a : List ℕ) × In a (words_of w c) × (stands w p a ≡ true)
 
--- so does that of a query's child
-abbrev pub Marks : Bool → Query → Box → Type 0
+-- so does that of a question's child
+abbrev pub Marks : Bool → Question → Box → Type 0
 Marks w q b = HasMark w q.word (child_of b q.child)
 
 -- a word that joins is a mark of itself
@@ -225,7 +225,7 @@ once_told false Open n = refl
 
 module _ (k : ℕ) (first : Sign) where
   -- a box below one part is refuted in the other
-  marked_refuted : (w : Bool) (b x : Box) (q : Query) → IsLong k b → IsLong k x → Apt k q → word_rules.answer b q ≡ Open → Marks w q x → Refuted (word_rules.answer (word_rules.settle (not w) b q)) (box_term first x)
+  marked_refuted : (w : Bool) (b x : Box) (q : Question) → IsLong k b → IsLong k x → Apt k q → word_rules.answer b q ≡ Open → Marks w q x → Refuted (word_rules.answer (word_rules.settle (not w) b q)) (box_term first x)
   marked_refuted w b x q f g a o m =
       let c : Constraint = child_of b q.child in
       let n = g.fine.count in

@@ -5,13 +5,13 @@ use Rattle.av_perm.specs.Relations.{IsWord}
 use Rattle.av_perm.specs.declared.limits.TheConstants.{MAX_ROOT_LENGTH}
 use Rattle.av_perm.proofs.Membership.{Each}
 use Rattle.av_name.specs.declared.constraints.Known.TheVariants.{In as Inside, Out as Outside}
-use Rattle.av_split.specs.Split.{both, demands_known, next_query}
-use Rattle.av_split.specs.Boxes.{Query, Box, word_rules, demand, demands}
+use Rattle.av_split.specs.Split.{both, demands_known, next_question}
+use Rattle.av_split.specs.Boxes.{Question, Box, word_rules, demand, demands}
 use Rattle.av_split.proofs.GenericSplit.{next_finds}
 use Rattle.av_split.proofs.WordSplit.{Apt, demands_apt}
 use Rattle.av_split.specs.declared.advising.Asked.{Asked}
 use Rattle.av_split.specs.Cells.{known_so, or_else}
-use Rattle.av_split.specs.Gathering.{queried, word_query, Told, Gathers, IsBroken, MayAsk}
+use Rattle.av_split.specs.Gathering.{question_asked, word_question, Told, Gathers, IsBroken, MayAsk}
 use Rattle.av_split.proofs.AdviceWalks.{told_start}
 
 module _ (b : Box) (π : List ℕ) (A R : List (List ℕ)) where
@@ -20,40 +20,40 @@ module _ (b : Box) (π : List ℕ) (A R : List (List ℕ)) where
   first_broken h = h (demands π A R) (map (demand π true) R) (told_start b (demands π A R))
 
   -- the avoided words gone through
-  half : (mid : Option Query) → Gathers b None (map (demand π false) A) mid [] → Told b mid (demands π A R) (map (demand π true) R ++ [])
+  half : (mid : Option Question) → Gathers b None (map (demand π false) A) mid [] → Told b mid (demands π A R) (map (demand π true) R ++ [])
   half mid h = subst (Told b mid (demands π A R)) (sym (append-nil (map (demand π true) R)))
       (h (demands π A R) (map (demand π true) R) (told_start b (demands π A R)))
 
   -- a broken required one
-  pub second_broken : (mid : Option Query) → Gathers b None (map (demand π false) A) mid [] → IsBroken b mid (map (demand π true) R) → demands_known (word_rules.answer b) (demands π A R) ≡ Outside
+  pub second_broken : (mid : Option Question) → Gathers b None (map (demand π false) A) mid [] → IsBroken b mid (map (demand π true) R) → demands_known (word_rules.answer b) (demands π A R) ≡ Outside
   second_broken mid h k = k (demands π A R) [] (half mid h)
 
   -- all gone through
-  whole : (mid new : Option Query) → Gathers b None (map (demand π false) A) mid [] → Gathers b mid (map (demand π true) R) new [] → Told b new (demands π A R) []
+  whole : (mid new : Option Question) → Gathers b None (map (demand π false) A) mid [] → Gathers b mid (map (demand π true) R) new [] → Told b new (demands π A R) []
   whole mid new h k = k (demands π A R) [] (half mid h)
 
-  both_nothing : (o : Option Query) → both (known_so o) Inside ≡ known_so o
+  both_nothing : (o : Option Question) → both (known_so o) Inside ≡ known_so o
   both_nothing None = refl
   both_nothing (Some q) = refl
 
-  or_nothing : (o : Option Query) → or_else o None ≡ o
+  or_nothing : (o : Option Question) → or_else o None ≡ o
   or_nothing None = refl
   or_nothing (Some q) = refl
 
-  pub all_known : (mid new : Option Query) → Gathers b None (map (demand π false) A) mid [] → Gathers b mid (map (demand π true) R) new [] → demands_known (word_rules.answer b) (demands π A R) ≡ known_so new
+  pub all_known : (mid new : Option Question) → Gathers b None (map (demand π false) A) mid [] → Gathers b mid (map (demand π true) R) new [] → demands_known (word_rules.answer b) (demands π A R) ≡ known_so new
   all_known mid new h k = (whole mid new h k).known ∙ both_nothing new
 
-  pub all_next : (mid new : Option Query) → Gathers b None (map (demand π false) A) mid [] → Gathers b mid (map (demand π true) R) new [] → next_query (word_rules.answer b) (demands π A R) ≡ new
+  pub all_next : (mid new : Option Question) → Gathers b None (map (demand π false) A) mid [] → Gathers b mid (map (demand π true) R) new [] → next_question (word_rules.answer b) (demands π A R) ≡ new
   all_next mid new h k = (whole mid new h k).first ∙ or_nothing new
 
-  -- the query is one of the root's children
-  pub may_ask : Each IsWord A → Each IsWord R → length π ≤ MAX_ROOT_LENGTH → (mid : Option Query) (new : Option Asked) → Gathers b None (map (demand π false) A) mid [] → Gathers b mid (map (demand π true) R) (queried new) [] → MayAsk new
+  -- the question is one of the root's children
+  pub may_ask : Each IsWord A → Each IsWord R → length π ≤ MAX_ROOT_LENGTH → (mid : Option Question) (new : Option Asked) → Gathers b None (map (demand π false) A) mid [] → Gathers b mid (map (demand π true) R) (question_asked new) [] → MayAsk new
   may_ask ga gr l mid None h k = tt
   may_ask ga gr l mid (Some a) h k =
-      let n = next_finds (word_rules.answer b) (demands π A R) (all_known mid (Some (word_query a.child a.word)) h k) in
-      let s : n.0 ≡ word_query a.child a.word = some_query n.0 (word_query a.child a.word) (sym n.1 ∙ all_next mid (Some (word_query a.child a.word)) h k) in
+      let n = next_finds (word_rules.answer b) (demands π A R) (all_known mid (Some (word_question a.child a.word)) h k) in
+      let s : n.0 ≡ word_question a.child a.word = some_question n.0 (word_question a.child a.word) (sym n.1 ∙ all_next mid (Some (word_question a.child a.word)) h k) in
       let c = (subst (Apt (length π)) s (demands_apt π A R ga gr n.0 n.2.1)).child in
       omega (arith, c, l)
     where
-      some_query : (x y : Query) → Some x ≡ Some y → x ≡ y
-      some_query x y e = cc
+      some_question : (x y : Question) → Some x ≡ Some y → x ≡ y
+      some_question x y e = cc

@@ -1,4 +1,4 @@
--- What is known of the queries of an embedding, child by child.
+-- What is known of the questions of an embedding, child by child.
 use Rattle.std.proofs.Common.{◌≡◌, ℕ, ◌+◌, List, [], ◌∷◌, ◌++◌, Some, None, refl, sym, ap, ap₂, ◌∙◌, subst, add-one}
 use Rattle.av_perm.specs.Inflate.{joined}
 use Rattle.av_perm.specs.Relations.{pattern_of}
@@ -10,11 +10,11 @@ use Rattle.av_name.specs.declared.constraints.Known.{Known}
 use Rattle.av_name.specs.declared.constraints.Known.TheVariants.{In as Inside, Out as Outside, Open}
 use Rattle.av_name.specs.Constraints.{free, answer}
 use Rattle.av_split.specs.Split.{both, all_of, at_open, first_open}
-use Rattle.av_split.specs.Boxes.{Query, Box, word_rules, ask}
+use Rattle.av_split.specs.Boxes.{Question, Box, word_rules, ask}
 use Rattle.av_split.specs.declared.advising.WordStep.{WordStep}
 use Rattle.av_split.specs.declared.advising.WordStep.TheVariants as steps
 use Rattle.av_split.specs.Cells.{or_else}
-use Rattle.av_split.specs.Gathering.{IsWholeStep, word_query}
+use Rattle.av_split.specs.Gathering.{IsWholeStep, word_question}
 
 -- two lists together
 both_assoc : (a b c : Known) → both (both a b) c ≡ both a (both b c)
@@ -42,8 +42,8 @@ first_append f h (x ∷ xs) ys = by (f x) (first_append f h xs ys)
     by Inside e = e
     by Outside e = e
 
--- a query that is asked alone
-one_known : (f : Query → Known) (q : Query) (k : Known) → f q ≡ k → all_of f (q ∷ []) ≡ k
+-- a question that is asked alone
+one_known : (f : Question → Known) (q : Question) (k : Known) → f q ≡ k → all_of f (q ∷ []) ≡ k
 one_known f q k e = ap (λ x. both x Inside) e ∙ by k
   where
     by : (k : Known) → both k Inside ≡ k
@@ -52,38 +52,38 @@ one_known f q k e = ap (λ x. both x Inside) e ∙ by k
     by Open = refl
 
 -- no place goes to the child
-pub ask_none : (b : Box) (i : ℕ) (xs : List ℕ) → xs ≡ [] → IsWholeStep steps.Holds (all_of (word_rules.answer b) (ask i xs)) (first_open (word_rules.answer b) (λ (q : Query). Some q) (ask i xs))
+pub ask_none : (b : Box) (i : ℕ) (xs : List ℕ) → xs ≡ [] → IsWholeStep steps.Holds (all_of (word_rules.answer b) (ask i xs)) (first_open (word_rules.answer b) (λ (q : Question). Some q) (ask i xs))
 ask_none b i [] e = (refl, refl)
 ask_none b i (x ∷ xs) e = absurd (cc)
 
 -- what its constraint tells of the pattern of the places
 pub ask_inside : (b : Box) (c : Constraint) (i : ℕ) (xs p : List ℕ) → slice_get b i ≡ Some c → (xs ≡ [] → ⊥) → p ≡ pattern_of xs → answer c p ≡ Inside
-    → IsWholeStep steps.Holds (all_of (word_rules.answer b) (ask i xs)) (first_open (word_rules.answer b) (λ (q : Query). Some q) (ask i xs))
+    → IsWholeStep steps.Holds (all_of (word_rules.answer b) (ask i xs)) (first_open (word_rules.answer b) (λ (q : Question). Some q) (ask i xs))
 ask_inside b c i [] p g n e h = absurd (n refl)
 ask_inside b c i (x ∷ xs) p g n e h =
-    let here : word_rules.answer b (word_query i (pattern_of (x ∷ xs))) ≡ Inside = ap₂ (λ d w. answer d w) (get_or_from_slice_get b i c free g) (sym e) ∙ h in
-    (one_known (word_rules.answer b) (word_query i (pattern_of (x ∷ xs))) Inside here, ap (λ k. at_open k (Some (word_query i (pattern_of (x ∷ xs)))) None) here)
+    let here : word_rules.answer b (word_question i (pattern_of (x ∷ xs))) ≡ Inside = ap₂ (λ d w. answer d w) (get_or_from_slice_get b i c free g) (sym e) ∙ h in
+    (one_known (word_rules.answer b) (word_question i (pattern_of (x ∷ xs))) Inside here, ap (λ k. at_open k (Some (word_question i (pattern_of (x ∷ xs)))) None) here)
 
 pub ask_outside : (b : Box) (c : Constraint) (i : ℕ) (xs p : List ℕ) → slice_get b i ≡ Some c → (xs ≡ [] → ⊥) → p ≡ pattern_of xs → answer c p ≡ Outside
-    → IsWholeStep steps.Fails (all_of (word_rules.answer b) (ask i xs)) (first_open (word_rules.answer b) (λ (q : Query). Some q) (ask i xs))
+    → IsWholeStep steps.Fails (all_of (word_rules.answer b) (ask i xs)) (first_open (word_rules.answer b) (λ (q : Question). Some q) (ask i xs))
 ask_outside b c i [] p g n e h = absurd (n refl)
-ask_outside b c i (x ∷ xs) p g n e h = one_known (word_rules.answer b) (word_query i (pattern_of (x ∷ xs))) Outside (ap₂ (λ d w. answer d w) (get_or_from_slice_get b i c free g) (sym e) ∙ h)
+ask_outside b c i (x ∷ xs) p g n e h = one_known (word_rules.answer b) (word_question i (pattern_of (x ∷ xs))) Outside (ap₂ (λ d w. answer d w) (get_or_from_slice_get b i c free g) (sym e) ∙ h)
 
 pub ask_open : (b : Box) (c : Constraint) (i : ℕ) (xs p : List ℕ) → slice_get b i ≡ Some c → (xs ≡ [] → ⊥) → p ≡ pattern_of xs → answer c p ≡ Open
-    → IsWholeStep (steps.Asks i p) (all_of (word_rules.answer b) (ask i xs)) (first_open (word_rules.answer b) (λ (q : Query). Some q) (ask i xs))
+    → IsWholeStep (steps.Asks i p) (all_of (word_rules.answer b) (ask i xs)) (first_open (word_rules.answer b) (λ (q : Question). Some q) (ask i xs))
 ask_open b c i [] p g n e h = absurd (n refl)
 ask_open b c i (x ∷ xs) p g n e h =
-    let here : word_rules.answer b (word_query i (pattern_of (x ∷ xs))) ≡ Open = ap₂ (λ d w. answer d w) (get_or_from_slice_get b i c free g) (sym e) ∙ h in (
-      one_known (word_rules.answer b) (word_query i (pattern_of (x ∷ xs))) Open here,
-      ap (λ k. at_open k (Some (word_query i (pattern_of (x ∷ xs)))) None) here ∙ ap (λ w. Some (word_query i w)) (sym e),
+    let here : word_rules.answer b (word_question i (pattern_of (x ∷ xs))) ≡ Open = ap₂ (λ d w. answer d w) (get_or_from_slice_get b i c free g) (sym e) ∙ h in (
+      one_known (word_rules.answer b) (word_question i (pattern_of (x ∷ xs))) Open here,
+      ap (λ k. at_open k (Some (word_question i (pattern_of (x ∷ xs)))) None) here ∙ ap (λ w. Some (word_question i w)) (sym e),
     )
 
 -- one more child
-pub queries_next : (s : WordStep) (f : Query → Known) (F : ℕ → List Query) (k : ℕ)
-    → IsWholeStep s (both (all_of f (joined F k)) (all_of f (F k))) (or_else (first_open f (λ (q : Query). Some q) (joined F k)) (first_open f (λ (q : Query). Some q) (F k)))
-    → IsWholeStep s (all_of f (joined F (k + 1))) (first_open f (λ (q : Query). Some q) (joined F (k + 1)))
-queries_next s f F k h =
+pub questions_next : (s : WordStep) (f : Question → Known) (F : ℕ → List Question) (k : ℕ)
+    → IsWholeStep s (both (all_of f (joined F k)) (all_of f (F k))) (or_else (first_open f (λ (q : Question). Some q) (joined F k)) (first_open f (λ (q : Question). Some q) (F k)))
+    → IsWholeStep s (all_of f (joined F (k + 1))) (first_open f (λ (q : Question). Some q) (joined F (k + 1)))
+questions_next s f F k h =
     let e : joined F (k + 1) ≡ joined F k ++ F k = ap (joined F) (add-one k) ∙ sym (joined_more k F) in
     let a = ap (all_of f) e ∙ all_append f (joined F k) (F k) in
-    let b = ap (first_open f (λ (q : Query). Some q)) e ∙ first_append f (λ (q : Query). q) (joined F k) (F k) in
-    subst (λ x. IsWholeStep s x (first_open f (λ (q : Query). Some q) (joined F (k + 1)))) (sym a) (subst (IsWholeStep s (both (all_of f (joined F k)) (all_of f (F k)))) (sym b) h)
+    let b = ap (first_open f (λ (q : Question). Some q)) e ∙ first_append f (λ (q : Question). q) (joined F k) (F k) in
+    subst (λ x. IsWholeStep s x (first_open f (λ (q : Question). Some q) (joined F (k + 1)))) (sym a) (subst (IsWholeStep s (both (all_of f (joined F k)) (all_of f (F k)))) (sym b) h)

@@ -9,7 +9,7 @@ use Rattle.av_sys.specs.Names.{Meets}
 use Rattle.av_name.specs.declared.constraints.Known.TheVariants.{In as Inside, Out as Outside}
 use Rattle.av_name.specs.Constraints.{free}
 use Rattle.av_name.proofs.Answered.{inside_says, outside_says, free_meets}
-use Rattle.av_split.specs.Split.{demands_known, queries_of}
+use Rattle.av_split.specs.Split.{demands_known, questions_of}
 use Rattle.av_split.specs.Boxes.{Box, child_of, word_rules, demands, boxes}
 use Rattle.av_split.specs.Laws.{LiesIn}
 use Rattle.av_split.proofs.GenericSplit.{Says, Met, boxes_cover, demands_say, next_finds}
@@ -17,8 +17,8 @@ use Rattle.av_split.proofs.WordSplit.{Fine, Apt, Lies, Holds, word_law, word_mea
 use Rattle.av_split.specs.Advice.{AdviceLaw}
 
 module _ (π : List ℕ) (A R : List (List ℕ)) (w : IsWord π) (ga : Each IsWord A) (gr : Each IsWord R) (b : Box) (αs : List (List ℕ)) (are : AreBlocks π αs) (lies : LiesIn π αs b) where
-  -- what the box says of a query is true
-  says : Each (Says (word_rules.answer b) (Holds αs)) (queries_of (demands π A R))
+  -- what the box says of a question is true
+  says : Each (Says (word_rules.answer b) (Holds αs)) (questions_of (demands π A R))
   says q i =
       let a = demands_apt π A R ga gr q i in
       record {

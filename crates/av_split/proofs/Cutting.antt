@@ -20,11 +20,11 @@ use Rattle.av_split.specs.declared.path.Path.{Path}
 use Rattle.av_split.specs.declared.path.Turn.{Turn}
 use Rattle.av_split.specs.declared.steps.Step.{Step}
 use Rattle.av_split.specs.declared.steps.Step.TheVariants.{Holds, Fails, Asks}
-use Rattle.av_split.specs.Split.{both, either, turned, all_of, some_of, Demand, demand_known, demands_known, at_open, first_open, next_query, queries_of, boxes_by}
-use Rattle.av_split.specs.Boxes.{Query, Box, child_of, added, word_rules, demands, boxes}
+use Rattle.av_split.specs.Split.{both, either, turned, all_of, some_of, Demand, demand_known, demands_known, at_open, first_open, next_question, questions_of, boxes_by}
+use Rattle.av_split.specs.Boxes.{Question, Box, child_of, added, word_rules, demands, boxes}
 use Rattle.av_split.specs.Laws.{IsTidy}
 use Rattle.av_split.specs.Marks.{unmarked, once, relates, IsSettled, constraint_of, box_of, free_mark}
-use Rattle.av_split.specs.Cells.{Pointwise, query_at, IsQueryOf, AreQueriesOf, IsDemandOf, AreDemandsOf, known_at, IsCellOf, HaveCellsOf, IsStep}
+use Rattle.av_split.specs.Cells.{Pointwise, question_at, IsQuestionOf, AreQuestionsOf, IsDemandOf, AreDemandsOf, known_at, IsCellOf, HaveCellsOf, IsStep}
 use Rattle.av_split.specs.Walk.{IsRow, AreRows, IsOpen, AreCuts, IsPath, IsWalk, before, parts_left, parts_of, left_of, CanEnter, AreTurns, IsEntered, Either, GoesBack, Advances, CanStep}
 use Rattle.av_split.proofs.GenericSplit.{both_inside, both_outside, both_out, either_inside, either_outside, either_in, turned_open, open_count, Asks as IsAsked, asks, fewer, boxes_outside, boxes_inside, boxes_more}
 use Rattle.av_split.proofs.WordSplit.{Fine, Apt, word_law, demands_apt}
@@ -69,28 +69,28 @@ first_same R F f G g S h k (x ∷ xs) [] p = absurd p
 first_same R F f G g S h k (x ∷ xs) (y ∷ ys) p =
     at_same S (F x) (f y) (G x) (first_open F G xs) (g y) (first_open f g ys) (h x y p.0) (k x y p.0) (first_same R F f G g S h k xs ys p.1)
 
--- demands by cells and by queries agree where the answers do
-module _ (k : ℕ) (ps : List (List ℕ)) (F : Cell → Known) (f : Query → Known) (same : (cell : Cell) (q : Query) → IsQueryOf k ps cell q → F cell ≡ f q) where
+-- demands by cells and by questions agree where the answers do
+module _ (k : ℕ) (ps : List (List ℕ)) (F : Cell → Known) (f : Question → Known) (same : (cell : Cell) (q : Question) → IsQuestionOf k ps cell q → F cell ≡ f q) where
   -- an embedding
-  pub embedding_same : (cells : List Cell) (qs : List Query) → AreQueriesOf k ps cells qs → all_of F cells ≡ all_of f qs
-  embedding_same = all_same (IsQueryOf k ps) F f same
+  pub embedding_same : (cells : List Cell) (qs : List Question) → AreQuestionsOf k ps cells qs → all_of F cells ≡ all_of f qs
+  embedding_same = all_same (IsQuestionOf k ps) F f same
 
   -- a demand
-  pub demand_same : (d : Demand Cell) (e : Demand Query) → IsDemandOf k ps d e → demand_known F d ≡ demand_known f e
-  demand_same d e i = ap₂ turned i.required (some_same (AreQueriesOf k ps) (all_of F) (all_of f) embedding_same d.embeddings e.embeddings i.embeddings)
+  pub demand_same : (d : Demand Cell) (e : Demand Question) → IsDemandOf k ps d e → demand_known F d ≡ demand_known f e
+  demand_same d e i = ap₂ turned i.required (some_same (AreQuestionsOf k ps) (all_of F) (all_of f) embedding_same d.embeddings e.embeddings i.embeddings)
 
   -- all demands
-  pub demands_same : (ds : List (Demand Cell)) (es : List (Demand Query)) → AreDemandsOf k ps ds es → demands_known F ds ≡ demands_known f es
+  pub demands_same : (ds : List (Demand Cell)) (es : List (Demand Question)) → AreDemandsOf k ps ds es → demands_known F ds ≡ demands_known f es
   demands_same = all_same (IsDemandOf k ps) (demand_known F) (demand_known f) demand_same
 
-  -- the next query
-  pub next_same : (ds : List (Demand Cell)) (es : List (Demand Query)) → AreDemandsOf k ps ds es → OptionOf (IsQueryOf k ps) (next_query F ds) (next_query f es)
+  -- the next question
+  pub next_same : (ds : List (Demand Cell)) (es : List (Demand Question)) → AreDemandsOf k ps ds es → OptionOf (IsQuestionOf k ps) (next_question F ds) (next_question f es)
   next_same =
       first_same (IsDemandOf k ps) (demand_known F) (demand_known f)
       (λ (d : Demand Cell). first_open (all_of F) (λ (m : List Cell). first_open F (λ (q : Cell). Some q) m) d.embeddings)
-      (λ (d : Demand Query). first_open (all_of f) (λ (m : List Query). first_open f (λ (q : Query). Some q) m) d.embeddings) (IsQueryOf k ps) demand_same
-      (λ d e i. first_same (AreQueriesOf k ps) (all_of F) (all_of f) (λ (m : List Cell). first_open F (λ (q : Cell). Some q) m) (λ (m : List Query). first_open f (λ (q : Query). Some q) m) (IsQueryOf k ps) embedding_same
-      (first_same (IsQueryOf k ps) F f (λ (q : Cell). Some q) (λ (q : Query). Some q) (IsQueryOf k ps) same (λ x y j. j)) d.embeddings e.embeddings i.embeddings)
+      (λ (d : Demand Question). first_open (all_of f) (λ (m : List Question). first_open f (λ (q : Question). Some q) m) d.embeddings) (IsQuestionOf k ps) demand_same
+      (λ d e i. first_same (AreQuestionsOf k ps) (all_of F) (all_of f) (λ (m : List Cell). first_open F (λ (q : Cell). Some q) m) (λ (m : List Question). first_open f (λ (q : Question). Some q) m) (IsQuestionOf k ps) embedding_same
+      (first_same (IsQuestionOf k ps) F f (λ (q : Cell). Some q) (λ (q : Question). Some q) (IsQuestionOf k ps) same (λ x y j. j)) d.embeddings e.embeddings i.embeddings)
 
 -- an item of a list has its partner
 pub pointwise_In : {A B : Type 0} (R : A → B → Type 0) (xs : List A) (ys : List B) (x : A) → Pointwise R xs ys → In x xs → (y : B) × R x y
@@ -111,11 +111,11 @@ pub child_is : (ps : List (List ℕ)) (rows : List (List Mark)) (i : ℕ) → i 
 child_is ps rows i h = get_or-map (constraint_of ps) rows i [] free h
 
 -- what is known of a cell is what its constraint tells of its pattern
-pub cell_known : (k : ℕ) (ps : List (List ℕ)) (rows : List (List Mark)) (cell : Cell) (q : Query) → AreRows k ps rows → IsQueryOf k ps cell q → known_at rows cell ≡ word_rules.answer (box_of ps rows) q
+pub cell_known : (k : ℕ) (ps : List (List ℕ)) (rows : List (List Mark)) (cell : Cell) (q : Question) → AreRows k ps rows → IsQuestionOf k ps cell q → known_at rows cell ≡ word_rules.answer (box_of ps rows) q
 cell_known k ps rows cell q r i =
     (r.each cell.child i.child).known cell.pattern i.pattern
     ∙ ap (λ c. answer c (get_or ps cell.pattern [])) (sym (child_is ps rows cell.child (let n = r.count in let h = i.child in omega arith)))
-    ∙ ap (word_rules.answer (box_of ps rows)) i.query
+    ∙ ap (word_rules.answer (box_of ps rows)) i.question
 
 -- the box of the rows is fine
 pub rows_fine : (k : ℕ) (ps : List (List ℕ)) (rows : List (List Mark)) → AreRows k ps rows → Fine k (box_of ps rows)
@@ -125,20 +125,20 @@ rows_fine k ps rows r = record {
   tidy = λ i h. subst IsTidy (sym (child_is ps rows i (let n = r.count in omega arith))) (r.each i h).tidy;
 }
 
--- the cell of a query is one of the rows
-pub query_cell : (k : ℕ) (ps : List (List ℕ)) (rows : List (List Mark)) (cell : Cell) (q : Query) → AreRows k ps rows → IsQueryOf k ps cell q → IsCellOf rows cell
-query_cell k ps rows cell q r i = record {
+-- the cell of a question is one of the rows
+pub question_cell : (k : ℕ) (ps : List (List ℕ)) (rows : List (List Mark)) (cell : Cell) (q : Question) → AreRows k ps rows → IsQuestionOf k ps cell q → IsCellOf rows cell
+question_cell k ps rows cell q r i = record {
   child = let n = r.count in let h = i.child in omega arith;
   pattern = let n = (r.each cell.child i.child).size in let h = i.pattern in omega arith;
 }
 
--- each cell of the demands has its query
-pub cell_query : (k : ℕ) (ps : List (List ℕ)) (ds : List (Demand Cell)) (es : List (Demand Query)) → AreDemandsOf k ps ds es → (d : Demand Cell) → In d ds → (cells : List Cell) → In cells d.embeddings → (cell : Cell) → In cell cells
-    → (q : Query) × IsQueryOf k ps cell q
-cell_query k ps ds es a d i cells j cell l =
+-- each cell of the demands has its question
+pub cell_question : (k : ℕ) (ps : List (List ℕ)) (ds : List (Demand Cell)) (es : List (Demand Question)) → AreDemandsOf k ps ds es → (d : Demand Cell) → In d ds → (cells : List Cell) → In cells d.embeddings → (cell : Cell) → In cell cells
+    → (q : Question) × IsQuestionOf k ps cell q
+cell_question k ps ds es a d i cells j cell l =
     let e = pointwise_In (IsDemandOf k ps) ds es d a i in
-    let m = pointwise_In (AreQueriesOf k ps) d.embeddings (e.0).embeddings cells (e.1).embeddings j in
-    pointwise_In (IsQueryOf k ps) cells m.0 cell m.1 l
+    let m = pointwise_In (AreQuestionsOf k ps) d.embeddings (e.0).embeddings cells (e.1).embeddings j in
+    pointwise_In (IsQuestionOf k ps) cells m.0 cell m.1 l
 
 -- where one answer is the other is so too
 abbrev pub Passes : {A : Type 0} → Known → (A → Known) → (A → Known) → A → Type 0
@@ -204,7 +204,7 @@ module _ (r : Bool) (k : ℕ) (ps : List (List ℕ)) (rows next : List (List Mar
   pub here : cell.child < length rows
   here = let n = is.count in omega arith
 
-  pub next_box : box_of ps next ≡ word_rules.settle r (box_of ps rows) (query_at ps cell)
+  pub next_box : box_of ps next ≡ word_rules.settle r (box_of ps rows) (question_at ps cell)
   next_box =
       ap (box_of ps) e ∙ map-set (constraint_of ps) rows cell.child row
       ∙ ap (set (box_of ps rows) cell.child) (settled_is r ps cell.pattern (get_or rows cell.child []) row (is.each cell.child h) g word unknown s ∙ ap (λ c. added r c (get_or ps cell.pattern [])) (sym (child_is ps rows cell.child here)))
@@ -239,19 +239,19 @@ module _ (r : Bool) (k : ℕ) (ps : List (List ℕ)) (rows next : List (List Mar
       none : (r : Bool) (k : Known) → k ≡ once r false k
       none r k = grind arith
 
--- how many steps a box with n open queries takes at most
+-- how many steps a box with n open questions takes at most
 abbrev pub weight : ℕ → ℕ
 weight zero = 1
 weight (suc n) = suc (weight n + weight n)
 
--- more open queries weigh more
+-- more open questions weigh more
 pub weight_mono : (a n : ℕ) → a ≤ n → weight a ≤ weight n
 weight_mono zero zero h = omega arith
 weight_mono zero (suc n) h = omega arith
 weight_mono (suc a) zero h = absurd (omega arith)
 weight_mono (suc a) (suc n) h = let r = weight_mono a n (omega arith) in omega arith
 
--- two boxes with fewer open queries weigh less together
+-- two boxes with fewer open questions weigh less together
 pub weight_two : (a b n : ℕ) → a < n → b < n → weight a + weight b < weight n
 weight_two a b zero h k = absurd (omega arith)
 weight_two a b (suc n) h k = let r = weight_mono a n (omega arith) in let s = weight_mono b n (omega arith) in omega arith
@@ -262,9 +262,9 @@ weight_some zero = omega arith
 weight_some (suc n) = omega arith
 
 -- the weight of some boxes
-abbrev pub weights : List (Demand Query) → List Box → ℕ
+abbrev pub weights : List (Demand Question) → List Box → ℕ
 weights ds [] = 0
-weights ds (b ∷ bs) = weight (open_count (word_rules.answer b) (queries_of ds)) + weights ds bs
+weights ds (b ∷ bs) = weight (open_count (word_rules.answer b) (questions_of ds)) + weights ds bs
 
 pub none : {A : Type 0} {x : A} → None ≡ Some x → ⊥
 none e = cc
@@ -290,46 +290,46 @@ set_back (y ∷ xs) zero x d h = refl
 set_back (y ∷ xs) (suc i) x d h = ap (λ l. y ∷ l) (set_back xs i x d (omega arith))
 
 -- what a turn of the loop keeps, and what it gives
-pub record Advanced (k : ℕ) (ps : List (List ℕ)) (ds : List (Demand Cell)) (all : List (Demand Query)) (parts : List Box) (next : Option Path) (out : List Box) : Type 0 where
+pub record Advanced (k : ℕ) (ps : List (List ℕ)) (ds : List (Demand Cell)) (all : List (Demand Question)) (parts : List Box) (next : Option Path) (out : List Box) : Type 0 where
   pub path : (q : Path) → next ≡ Some q → IsPath k ps ds q
   pub boxes : flat_map (boxes_by word_rules all) parts ≡ out ++ left_of all ps next
   pub less : weights all (parts_of ps next) < weights all parts
 
 -- of one root and name
 module _ (π : List ℕ) (A R ps : List (List ℕ)) (ds : List (Demand Cell)) (ga : Each IsWord A) (gr : Each IsWord R) (asked : AreDemandsOf (length π) ps ds (demands π A R)) where
-  -- the queries are of the children
-  pub apt : Each (Apt (length π)) (queries_of (demands π A R))
+  -- the questions are of the children
+  pub apt : Each (Apt (length π)) (questions_of (demands π A R))
   apt = demands_apt π A R ga gr
 
   -- the cells of the demands are in the rows
   pub cells_there : (rows : List (List Mark)) → AreRows (length π) ps rows → HaveCellsOf rows ds
   cells_there rows is d j cells l cell m =
-      let q = cell_query (length π) ps ds (demands π A R) asked d j cells l cell m in
-      query_cell (length π) ps rows cell q.0 is q.1
+      let q = cell_question (length π) ps ds (demands π A R) asked d j cells l cell m in
+      question_cell (length π) ps rows cell q.0 is q.1
 
   -- a box with these rows
   module _ (rows : List (List Mark)) (is : AreRows (length π) ps rows) where
-    -- its answers at cells are those at queries
-    agree : (cell : Cell) (q : Query) → IsQueryOf (length π) ps cell q → known_at rows cell ≡ word_rules.answer (box_of ps rows) q
+    -- its answers at cells are those at questions
+    agree : (cell : Cell) (q : Question) → IsQuestionOf (length π) ps cell q → known_at rows cell ≡ word_rules.answer (box_of ps rows) q
     agree cell q e = cell_known (length π) ps rows cell q is e
 
     -- what is known of the demands
     same_known : demands_known (known_at rows) ds ≡ demands_known (word_rules.answer (box_of ps rows)) (demands π A R)
     same_known = demands_same (length π) ps (known_at rows) (word_rules.answer (box_of ps rows)) agree ds (demands π A R) asked
 
-    -- the open cell of a step, with its query
+    -- the open cell of a step, with its question
     record Asked (cell : Cell) : Type 0 where
-      cell_is : IsQueryOf (length π) ps cell (query_at ps cell)
-      asks : IsAsked word_rules (demands π A R) (box_of ps rows) (query_at ps cell)
+      cell_is : IsQuestionOf (length π) ps cell (question_at ps cell)
+      asks : IsAsked word_rules (demands π A R) (box_of ps rows) (question_at ps cell)
 
-    asked_at : (cell : Cell) → IsStep (Asks cell) (demands_known (known_at rows) ds) (next_query (known_at rows) ds) → Asked cell
+    asked_at : (cell : Cell) → IsStep (Asks cell) (demands_known (known_at rows) ds) (next_question (known_at rows) ds) → Asked cell
     asked_at cell s =
         let n = asks word_rules (demands π A R) (box_of ps rows) (sym same_known ∙ s.0) in
         let both = next_same (length π) ps (known_at rows) (word_rules.answer (box_of ps rows)) agree ds (demands π A R) asked in
-        let i : IsQueryOf (length π) ps cell n.0 = subst (λ o. OptionOf (IsQueryOf (length π) ps) o (Some n.0)) s.1 (subst (OptionOf (IsQueryOf (length π) ps) (next_query (known_at rows) ds)) n.1.next both) in
+        let i : IsQuestionOf (length π) ps cell n.0 = subst (λ o. OptionOf (IsQuestionOf (length π) ps) o (Some n.0)) s.1 (subst (OptionOf (IsQuestionOf (length π) ps) (next_question (known_at rows) ds)) n.1.next both) in
         record {
-          cell_is = record { child = i.child; pattern = i.pattern; query = refl };
-          asks = subst (IsAsked word_rules (demands π A R) (box_of ps rows)) (sym i.query) n.1;
+          cell_is = record { child = i.child; pattern = i.pattern; question = refl };
+          asks = subst (IsAsked word_rules (demands π A R) (box_of ps rows)) (sym i.question) n.1;
         }
 
     can_enter : (cell : Cell) → Asked cell → CanEnter ps rows cell
@@ -341,15 +341,15 @@ module _ (π : List ℕ) (A R ps : List (List ℕ)) (ds : List (Demand Cell)) (g
 
     -- the pattern of the cell, of which nothing is known
     cell_open : (cell : Cell) → Asked cell → known_at rows cell ≡ Open
-    cell_open cell a = agree cell (query_at ps cell) a.cell_is ∙ a.asks.unknown
+    cell_open cell a = agree cell (question_at ps cell) a.cell_is ∙ a.asks.unknown
 
     cell_word : (cell : Cell) → Asked cell → IsWord (get_or ps cell.pattern [])
-    cell_word cell a = (apt (query_at ps cell) a.asks.there).word
+    cell_word cell a = (apt (question_at ps cell) a.asks.there).word
 
     -- the path to a part of the box, after some cuts, and the parts that it leaves for later
     entered : (r : Bool) (n : ℕ) (cell : Cell) (cuts : List Turn) (q : Path) → Asked cell → n ≤ length ds → all_of (demand_known (known_at rows)) (take n ds) ≡ Inside
-        → next_query (known_at rows) ds ≡ Some cell → AreCuts (length π) ps ds cuts rows → IsEntered r ps cell n rows cuts q
-        → IsPath (length π) ps ds q × (parts_of ps (Some q) ≡ word_rules.settle r (box_of ps rows) (query_at ps cell) ∷ (cond r [] (word_rules.settle true (box_of ps rows) (query_at ps cell) ∷ []) ++ parts_left ps cuts rows))
+        → next_question (known_at rows) ds ≡ Some cell → AreCuts (length π) ps ds cuts rows → IsEntered r ps cell n rows cuts q
+        → IsPath (length π) ps ds q × (parts_of ps (Some q) ≡ word_rules.settle r (box_of ps rows) (question_at ps cell) ∷ (cond r [] (word_rules.settle true (box_of ps rows) (question_at ps cell) ∷ []) ++ parts_left ps cuts rows))
     entered r n cell cuts q a m done next earlier x = (
       record {
         marks = next_rows r (length π) ps rows q.rows.items x.row cell is a.cell_is.child a.cell_is.pattern (cell_word cell a) (cell_open cell a) x.settled x.rows;
@@ -368,7 +368,7 @@ module _ (π : List ℕ) (A R ps : List (List ℕ)) (ds : List (Demand Cell)) (g
       },
       ap₂ (λ (b : Box) (bs : List Box). b ∷ bs)
           (next_box r (length π) ps rows q.rows.items x.row cell is a.cell_is.child a.cell_is.pattern (cell_word cell a) (cell_open cell a) x.settled x.rows)
-          (ap (λ l. parts_left ps l q.rows.items) x.turns ∙ ap (λ l. cond r [] (word_rules.settle true (box_of ps l) (query_at ps cell) ∷ []) ++ parts_left ps cuts l) put_back),
+          (ap (λ l. parts_left ps l q.rows.items) x.turns ∙ ap (λ l. cond r [] (word_rules.settle true (box_of ps l) (question_at ps cell) ∷ []) ++ parts_left ps cuts l) put_back),
     )
       where
         put_back : set q.rows.items cell.child (get_or rows cell.child []) ≡ rows
@@ -377,7 +377,7 @@ module _ (π : List ℕ) (A R ps : List (List ℕ)) (ds : List (Demand Cell)) (g
         tells : (d : Demand Cell) → In d ds → (l : List Cell) → In l d.embeddings → (c : Cell) → In c l → (t : Bool) × (known_at q.rows.items c ≡ once r t (known_at rows c))
         tells d i l j c k =
             next_known r (length π) ps rows q.rows.items x.row cell is a.cell_is.child a.cell_is.pattern (cell_word cell a) (cell_open cell a) x.settled x.rows c
-            (cell_query (length π) ps ds (demands π A R) asked d i l j c k).1.pattern
+            (cell_question (length π) ps ds (demands π A R) asked d i l j c k).1.pattern
 
         stays : (d : Demand Cell) → In d ds → (l : List Cell) → In l d.embeddings → (c : Cell) → In c l → {k : Known} → (k ≡ Open → ⊥) → known_at rows c ≡ k → known_at q.rows.items c ≡ k
         stays d i l j c m {k} n e = let t = tells d i l j c m in t.1 ∙ once_keeps r t.0 (known_at rows c) k n e
@@ -397,7 +397,7 @@ module _ (π : List ℕ) (A R ps : List (List ℕ)) (ds : List (Demand Cell)) (g
       by : (r : Bool) → (GoesBack ps turns (before t rows) next → ((q : Path) → next ≡ Some q → IsPath (length π) ps ds q) × (parts_of ps next ≡ parts_left ps turns (before t rows)))
           → Either r (GoesBack ps turns (before t rows) next) ((p : Path) × (next ≡ Some p) × IsEntered true ps t.cell t.from (before t rows) turns p)
           → ((q : Path) → next ≡ Some q → IsPath (length π) ps ds q)
-          × (parts_of ps next ≡ cond r [] (word_rules.settle true (box_of ps (before t rows)) (query_at ps t.cell) ∷ []) ++ parts_left ps turns (before t rows))
+          × (parts_of ps next ≡ cond r [] (word_rules.settle true (box_of ps (before t rows)) (question_at ps t.cell) ∷ []) ++ parts_left ps turns (before t rows))
       by true f g = f g
       by false f g =
           let o = c.0 in
@@ -426,7 +426,7 @@ module _ (π : List ℕ) (A R ps : List (List ℕ)) (ds : List (Demand Cell)) (g
       by (inr j) k = subst (λ m. (t.cell.child < m) × (t.cell.pattern < length ps) × (length t.row ≡ length ps)) long (k j)
 
   -- a step can be taken
-  pub can_step : (p : Path) (s : Step) → IsPath (length π) ps ds p → IsStep s (demands_known (known_at p.rows.items) ds) (next_query (known_at p.rows.items) ds) → CanStep ps p s
+  pub can_step : (p : Path) (s : Step) → IsPath (length π) ps ds p → IsStep s (demands_known (known_at p.rows.items) ds) (next_question (known_at p.rows.items) ds) → CanStep ps p s
   can_step p s i e = by s e
     where
       turns : AreTurns ps p.turns.items p.rows.items
@@ -435,17 +435,17 @@ module _ (π : List ℕ) (A R ps : List (List ℕ)) (ds : List (Demand Cell)) (g
       sizes : (j : ℕ) → j < length p.rows.items → length (get_or p.rows.items j []) ≡ length ps
       sizes j h = (i.marks.each j (let n = i.marks.count in omega arith)).size
 
-      by : (s : Step) → IsStep s (demands_known (known_at p.rows.items) ds) (next_query (known_at p.rows.items) ds) → CanStep ps p s
+      by : (s : Step) → IsStep s (demands_known (known_at p.rows.items) ds) (next_question (known_at p.rows.items) ds) → CanStep ps p s
       by Holds e = (sizes, turns)
       by Fails e = (sizes, turns)
       by (Asks cell) e = can_enter p.rows.items i.marks cell (asked_at p.rows.items i.marks cell e)
 
   -- a turn of the loop
   pub turn : (p : Path) (n : ℕ) (s : Step) (next : Option Path) (found : Option Box) → IsPath (length π) ps ds p → n ≤ length ds → all_of (demand_known (known_at p.rows.items)) (take n ds) ≡ Inside
-      → IsStep s (demands_known (known_at p.rows.items) ds) (next_query (known_at p.rows.items) ds) → Advances ps s n p found next → Advanced (length π) ps ds (demands π A R) (parts_of ps (Some p)) next (given found)
+      → IsStep s (demands_known (known_at p.rows.items) ds) (next_question (known_at p.rows.items) ds) → Advances ps s n p found next → Advanced (length π) ps ds (demands π A R) (parts_of ps (Some p)) next (given found)
   turn p n s next found i m done step v = by s step v
     where
-      all : List (Demand Query)
+      all : List (Demand Question)
       all = demands π A R
 
       b : Box
@@ -461,16 +461,16 @@ module _ (π : List ℕ) (A R ps : List (List ℕ)) (ds : List (Demand Cell)) (g
           record {
             path = r.0;
             boxes = ap₂ (λ (x y : List Box). x ++ y) e (ap (flat_map (boxes_by word_rules all)) (sym r.1));
-            less = let w = ap (weights all) r.1 in omega (arith, w, weight_some (open_count (word_rules.answer b) (queries_of all)));
+            less = let w = ap (weights all) r.1 in omega (arith, w, weight_some (open_count (word_rules.answer b) (questions_of all)));
           }
 
-      cut : (cell : Cell) → Asked p.rows.items i.marks cell → next_query (known_at p.rows.items) ds ≡ Some cell → (q : Path) → next ≡ Some q → found ≡ None → IsEntered false ps cell n p.rows.items (reverse p.turns.items) q
+      cut : (cell : Cell) → Asked p.rows.items i.marks cell → next_question (known_at p.rows.items) ds ≡ Some cell → (q : Path) → next ≡ Some q → found ≡ None → IsEntered false ps cell n p.rows.items (reverse p.turns.items) q
           → Advanced (length π) ps ds (demands π A R) (parts_of ps (Some p)) next (given found)
       cut cell a o q e f x =
           let c = entered p.rows.items i.marks false n cell (reverse p.turns.items) q a m done o i.cuts x in
           let fine : Fine (length π) b = rows_fine (length π) ps p.rows.items i.marks in
-          let more = boxes_more word_rules (Fine (length π)) (Apt (length π)) (word_law (length π)) all apt b (query_at ps cell) fine a.asks in
-          let part : Bool → Box = λ r. word_rules.settle r b (query_at ps cell) in
+          let more = boxes_more word_rules (Fine (length π)) (Apt (length π)) (word_law (length π)) all apt b (question_at ps cell) fine a.asks in
+          let part : Bool → Box = λ r. word_rules.settle r b (question_at ps cell) in
           let is : parts_of ps next ≡ part false ∷ part true ∷ later = ap (parts_of ps) e ∙ c.1 in
           record {
             path = λ z s. subst (IsPath (length π) ps ds) (some (sym e ∙ s)) c.0;
@@ -483,13 +483,13 @@ module _ (π : List ℕ) (A R ps : List (List ℕ)) (ds : List (Demand Cell)) (g
                 omega (
                   arith,
                   w,
-                  weight_two (open_count (word_rules.answer (part false)) (queries_of all)) (open_count (word_rules.answer (part true)) (queries_of all)) (open_count (word_rules.answer b) (queries_of all))
-                      (fewer word_rules (Fine (length π)) (Apt (length π)) (word_law (length π)) all apt false b (query_at ps cell) fine a.asks)
-                      (fewer word_rules (Fine (length π)) (Apt (length π)) (word_law (length π)) all apt true b (query_at ps cell) fine a.asks),
+                  weight_two (open_count (word_rules.answer (part false)) (questions_of all)) (open_count (word_rules.answer (part true)) (questions_of all)) (open_count (word_rules.answer b) (questions_of all))
+                      (fewer word_rules (Fine (length π)) (Apt (length π)) (word_law (length π)) all apt false b (question_at ps cell) fine a.asks)
+                      (fewer word_rules (Fine (length π)) (Apt (length π)) (word_law (length π)) all apt true b (question_at ps cell) fine a.asks),
                 );
           }
 
-      by : (s : Step) → IsStep s (demands_known (known_at p.rows.items) ds) (next_query (known_at p.rows.items) ds) → Advances ps s n p found next
+      by : (s : Step) → IsStep s (demands_known (known_at p.rows.items) ds) (next_question (known_at p.rows.items) ds) → Advances ps s n p found next
           → Advanced (length π) ps ds (demands π A R) (parts_of ps (Some p)) next (given found)
       by Holds e v = passed (boxes_inside word_rules (Fine (length π)) (Apt (length π)) (word_law (length π)) (demands π A R) apt (box_of ps p.rows.items) (sym (same_known p.rows.items i.marks) ∙ e) ∙ ap given (sym v.0)) v.1
       by Fails e v = passed (boxes_outside word_rules (Fine (length π)) (Apt (length π)) (word_law (length π)) (demands π A R) apt (box_of ps p.rows.items) (sym (same_known p.rows.items i.marks) ∙ e) ∙ ap given (sym v.0)) v.1
@@ -505,11 +505,11 @@ module _ (π : List ℕ) (A R ps : List (List ℕ)) (ds : List (Demand Cell)) (r
   pub walk_cells : HaveCellsOf p.rows.items ds
   walk_cells = cells_there π A R ps ds w.avoid w.require w.asked p.rows.items (w.path p e).marks
 
-  pub walk_step : (s : Step) → IsStep s (demands_known (known_at p.rows.items) ds) (next_query (known_at p.rows.items) ds) → CanStep ps p s
+  pub walk_step : (s : Step) → IsStep s (demands_known (known_at p.rows.items) ds) (next_question (known_at p.rows.items) ds) → CanStep ps p s
   walk_step s = can_step π A R ps ds w.avoid w.require w.asked p s (w.path p e)
 
   pub walk_turn : (n : ℕ) (s : Step) (next : Option Path) (found : Option Box) → n ≤ length ds → all_of (demand_known (known_at p.rows.items)) (take n ds) ≡ Inside
-      → IsStep s (demands_known (known_at p.rows.items) ds) (next_query (known_at p.rows.items) ds) → Advances ps s n p found next → Walked π A R ps ds rest next found
+      → IsStep s (demands_known (known_at p.rows.items) ds) (next_question (known_at p.rows.items) ds) → Advances ps s n p found next → Walked π A R ps ds rest next found
   walk_turn n s next found m done step v =
       let t = turn π A R ps ds w.avoid w.require w.asked p n s next found (w.path p e) m done step v in
       record {

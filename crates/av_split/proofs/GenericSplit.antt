@@ -1,11 +1,11 @@
--- The split, for any kind of box and query.
+-- The split, for any kind of box and question.
 use Rattle.std.proofs.Common.{◌≡◌, ℕ, zero, suc, ◌+◌, ◌-◌, ◌<◌, ◌≤◌, ◌⊎◌, inl, inr, ◌↔◌, List, [], ◌∷◌, ◌++◌, length, get_or, Bool, true, false, Option, Some, refl, sym, ap, ◌∙◌, subst, ap₂, arith}
 use Rattle.std.specs.List.{flat_map}
 use Rattle.av_perm.specs.Members.{In}
 use Rattle.av_perm.proofs.Membership.{Each, SomeIn, In_at, In_one, In_append_cases, append_left, append_right, flat_map_In}
 use Rattle.av_name.specs.declared.constraints.Known.{Known}
 use Rattle.av_name.specs.declared.constraints.Known.TheVariants.{In as Inside, Out as Outside, Open}
-use Rattle.av_split.specs.Split.{both, either, turned, all_of, some_of, Demand, demand_known, demands_known, at_open, first_open, next_query, Rules, outcome, split_by, queries_of, boxes_by, NeverStuck}
+use Rattle.av_split.specs.Split.{both, either, turned, all_of, some_of, Demand, demand_known, demands_known, at_open, first_open, next_question, Rules, outcome, split_by, questions_of, boxes_by, NeverStuck}
 
 -- Known facts are true
 pub both_inside : (x y : Known) → both x y ≡ Inside → (x ≡ Inside) × (y ≡ Inside)
@@ -78,7 +78,7 @@ abbrev pub MetIf : Bool → Type 0 → Type 0
 MetIf true X = X
 MetIf false X = X → ⊥
 
--- a demand is met where the queries_of that hold are those of `H`
+-- a demand is met where the questions that hold are those of `H`
 abbrev pub Met : {Q : Type 0} → (Q → Type 0) → Demand Q → Type 0
 Met H d = MetIf d.required (SomeIn (Each H) d.embeddings)
 
@@ -94,16 +94,16 @@ demand_says {Q = Q} f H d s =
     let t = turned_says d.required (some_of (all_of f) d.embeddings) (SomeIn (Each H) d.embeddings) a.inside a.outside in
     record { inside = t.0; outside = t.1 }
 
-pub query_In : {Q : Type 0} (ds : List (Demand Q)) (d : Demand Q) (m : List Q) (q : Q) → In d ds → In m d.embeddings → In q m → In q (queries_of ds)
-query_In {Q = Q} ds d m q i j k = flat_map_In (λ (d : Demand Q). flat_map (λ (m : List Q). m) d.embeddings) ds d q i (flat_map_In (λ (m : List Q). m) d.embeddings m q j k)
+pub question_In : {Q : Type 0} (ds : List (Demand Q)) (d : Demand Q) (m : List Q) (q : Q) → In d ds → In m d.embeddings → In q m → In q (questions_of ds)
+question_In {Q = Q} ds d m q i j k = flat_map_In (λ (d : Demand Q). flat_map (λ (m : List Q). m) d.embeddings) ds d q i (flat_map_In (λ (m : List Q). m) d.embeddings m q j k)
 
-pub demands_say : {Q : Type 0} (f : Q → Known) (H : Q → Type 0) (ds : List (Demand Q)) → Each (Says f H) (queries_of ds) → Says (demands_known f) (Each (Met H)) ds
-demands_say {Q = Q} f H ds s = all_says (demand_known f) (Met H) ds (λ (d : Demand Q) i. demand_says f H d (λ m j q k. s q (query_In ds d m q i j k)))
+pub demands_say : {Q : Type 0} (f : Q → Known) (H : Q → Type 0) (ds : List (Demand Q)) → Each (Says f H) (questions_of ds) → Says (demands_known f) (Each (Met H)) ds
+demands_say {Q = Q} f H ds s = all_says (demand_known f) (Met H) ds (λ (d : Demand Q) i. demand_says f H d (λ m j q k. s q (question_In ds d m q i j k)))
 
 pub unflipped : (k : Known) → turned false k ≡ Inside → k ≡ Outside
 unflipped k e = grind arith
 
--- the next query
+-- the next question
 abbrev pub Finds : {X : Type 0} → Option X → (X → Type 0) → Type 0
 Finds {X} o Good = (q : X) × (o ≡ Some q) × Good q
 
@@ -124,16 +124,16 @@ finds_in_some f g Good (x ∷ xs) h e = elim (either_open (f x) (some_of f xs) e
 pub turned_open : (w : Bool) (k : Known) → turned w k ≡ Open → k ≡ Open
 turned_open w k e = grind arith
 
-pub next_finds : {Q : Type 0} (f : Q → Known) (ds : List (Demand Q)) → demands_known f ds ≡ Open → Finds (next_query f ds) (λ q. (f q ≡ Open) × In q (queries_of ds))
+pub next_finds : {Q : Type 0} (f : Q → Known) (ds : List (Demand Q)) → demands_known f ds ≡ Open → Finds (next_question f ds) (λ q. (f q ≡ Open) × In q (questions_of ds))
 next_finds {Q = Q} f ds e =
-    finds_in_all (demand_known f) (λ (d : Demand Q). first_open (all_of f) (λ (m : List Q). first_open f (λ (q : Q). Some q) m) d.embeddings) (λ q. (f q ≡ Open) × In q (queries_of ds)) ds
-    (λ (d : Demand Q) i k. finds_in_some (all_of f) (λ (m : List Q). first_open f (λ (q : Q). Some q) m) (λ q. (f q ≡ Open) × In q (queries_of ds)) d.embeddings
-    (λ (m : List Q) j l. finds_in_all f (λ (q : Q). Some q) (λ q. (f q ≡ Open) × In q (queries_of ds)) m
-    (λ (q : Q) n o. (q, refl, (o, query_In ds d m q i j n))) l)
+    finds_in_all (demand_known f) (λ (d : Demand Q). first_open (all_of f) (λ (m : List Q). first_open f (λ (q : Q). Some q) m) d.embeddings) (λ q. (f q ≡ Open) × In q (questions_of ds)) ds
+    (λ (d : Demand Q) i k. finds_in_some (all_of f) (λ (m : List Q). first_open f (λ (q : Q). Some q) m) (λ q. (f q ≡ Open) × In q (questions_of ds)) d.embeddings
+    (λ (m : List Q) j l. finds_in_all f (λ (q : Q). Some q) (λ q. (f q ≡ Open) × In q (questions_of ds)) m
+    (λ (q : Q) n o. (q, refl, (o, question_In ds d m q i j n))) l)
     (turned_open d.required (some_of (all_of f) d.embeddings) k))
     e
 
--- how many queries_of are open
+-- how many questions are open
 abbrev pub open_one : Known → ℕ
 open_one Open = 1
 open_one Inside = 0
@@ -168,13 +168,13 @@ open_count_less f g (q ∷ qs) p h (inl s) e n =
     omega (arith, open_count_mono f g qs (λ r i. h r (inr i)))
 open_count_less f g (q ∷ qs) p h (inr i) e n = omega (arith, open_one_mono (f q) (g q) (h q (inl refl)), open_count_less f g qs p (λ r j. h r (inr j)) i e n)
 
--- Boxes of a kind `Fine`, asked queries of a kind `Apt`: what is known stays known, and each query that is asked becomes so
+-- Boxes of a kind `Fine`, asked questions of a kind `Apt`: what is known stays known, and each question that is asked becomes so
 pub record Lawful {B Q : Type 0} (r : Rules B Q) (Fine : B → Type 0) (Apt : Q → Type 0) : Type 0 where
   pub fine : (w : Bool) (b : B) (q : Q) → Fine b → Apt q → r.answer b q ≡ Open → Fine (r.settle w b q)
   pub settles : (w : Bool) (b : B) (q : Q) → Fine b → Apt q → r.answer b q ≡ Open → r.answer (r.settle w b q) q ≡ Open → ⊥
   pub keeps : (w : Bool) (b : B) (q p : Q) → Fine b → Apt q → Apt p → r.answer b q ≡ Open → r.answer (r.settle w b q) p ≡ Open → r.answer b p ≡ Open
 
--- what lies in a box (`Lies`) and the queries that hold (`H`), for one list of blocks
+-- what lies in a box (`Lies`) and the questions that hold (`H`), for one list of blocks
 pub record Meant {B Q : Type 0} (r : Rules B Q) (Fine : B → Type 0) (Apt : Q → Type 0) (Lies : B → Type 0) (H : Q → Type 0) : Type 0 where
   pub says : (b : B) (q : Q) → Fine b → Apt q → Lies b → Says (r.answer b) H q
   pub lies : (w : Bool) (b : B) (q : Q) → Fine b → Apt q → r.answer b q ≡ Open → Lies (r.settle w b q) ↔ (Lies b × MetIf w (H q))
@@ -204,38 +204,38 @@ Apart_at P (x ∷ xs) zero (suc j) d a h k p q = a.0 (get_or xs j d) (In_at xs j
 Apart_at P (x ∷ xs) (suc i) zero d a h k p q = absurd (omega arith)
 Apart_at P (x ∷ xs) (suc i) (suc j) d a h k p q = Apart_at P xs i j d a.1 (omega arith) (omega arith) p q
 
--- an open box and its next query
+-- an open box and its next question
 pub record Asks {B Q : Type 0} (r : Rules B Q) (ds : List (Demand Q)) (b : B) (q : Q) : Type 0 where
   pub known : demands_known (r.answer b) ds ≡ Open
-  pub next : next_query (r.answer b) ds ≡ Some q
+  pub next : next_question (r.answer b) ds ≡ Some q
   pub unknown : r.answer b q ≡ Open
-  pub there : In q (queries_of ds)
+  pub there : In q (questions_of ds)
 
 pub asks : {B Q : Type 0} (r : Rules B Q) (ds : List (Demand Q)) (b : B) → demands_known (r.answer b) ds ≡ Open → (q : Q) × Asks r ds b q
 asks r ds b k = let n = next_finds (r.answer b) ds k in (n.0, record { known = k; next = n.1; unknown = n.2.0; there = n.2.1 })
 
 -- the three rules
 pub split_outside : {B Q : Type 0} (r : Rules B Q) (ds : List (Demand Q)) (d : ℕ) (b : B) → demands_known (r.answer b) ds ≡ Outside → split_by r ds d b ≡ []
-split_outside r ds zero b e = ap (λ k. outcome k b (next_query (r.answer b) ds) (λ q. [])) e
-split_outside r ds (suc d) b e = ap (λ k. outcome k b (next_query (r.answer b) ds) (λ q. split_by r ds d (r.settle false b q) ++ split_by r ds d (r.settle true b q))) e
+split_outside r ds zero b e = ap (λ k. outcome k b (next_question (r.answer b) ds) (λ q. [])) e
+split_outside r ds (suc d) b e = ap (λ k. outcome k b (next_question (r.answer b) ds) (λ q. split_by r ds d (r.settle false b q) ++ split_by r ds d (r.settle true b q))) e
 
 pub split_inside : {B Q : Type 0} (r : Rules B Q) (ds : List (Demand Q)) (d : ℕ) (b : B) → demands_known (r.answer b) ds ≡ Inside → split_by r ds d b ≡ b ∷ []
-split_inside r ds zero b e = ap (λ k. outcome k b (next_query (r.answer b) ds) (λ q. [])) e
-split_inside r ds (suc d) b e = ap (λ k. outcome k b (next_query (r.answer b) ds) (λ q. split_by r ds d (r.settle false b q) ++ split_by r ds d (r.settle true b q))) e
+split_inside r ds zero b e = ap (λ k. outcome k b (next_question (r.answer b) ds) (λ q. [])) e
+split_inside r ds (suc d) b e = ap (λ k. outcome k b (next_question (r.answer b) ds) (λ q. split_by r ds d (r.settle false b q) ++ split_by r ds d (r.settle true b q))) e
 
 pub split_more : {B Q : Type 0} (r : Rules B Q) (ds : List (Demand Q)) (d : ℕ) (b : B) (q : Q) → Asks r ds b q → split_by r ds (suc d) b ≡ split_by r ds d (r.settle false b q) ++ split_by r ds d (r.settle true b q)
 split_more r ds d b q a = ap₂ (λ k o. outcome k b o (λ q. split_by r ds d (r.settle false b q) ++ split_by r ds d (r.settle true b q))) a.known a.next
 
-module _ {B Q : Type 0} (r : Rules B Q) (Fine : B → Type 0) (Apt : Q → Type 0) (law : Lawful r Fine Apt) (ds : List (Demand Q)) (apt : Each Apt (queries_of ds)) where
-  pub fewer : (w : Bool) (b : B) (q : Q) → Fine b → Asks r ds b q → open_count (r.answer (r.settle w b q)) (queries_of ds) < open_count (r.answer b) (queries_of ds)
+module _ {B Q : Type 0} (r : Rules B Q) (Fine : B → Type 0) (Apt : Q → Type 0) (law : Lawful r Fine Apt) (ds : List (Demand Q)) (apt : Each Apt (questions_of ds)) where
+  pub fewer : (w : Bool) (b : B) (q : Q) → Fine b → Asks r ds b q → open_count (r.answer (r.settle w b q)) (questions_of ds) < open_count (r.answer b) (questions_of ds)
   fewer w b q f a =
-      open_count_less (r.answer (r.settle w b q)) (r.answer b) (queries_of ds) q (λ p j k. law.keeps w b q p f (apt q a.there) (apt p j) a.unknown k) a.there a.unknown (law.settles w b q f (apt q a.there) a.unknown)
+      open_count_less (r.answer (r.settle w b q)) (r.answer b) (questions_of ds) q (λ p j k. law.keeps w b q p f (apt q a.there) (apt p j) a.unknown k) a.there a.unknown (law.settles w b q f (apt q a.there) a.unknown)
 
   -- what holds of a box that is dropped, of one that is given, and, where it holds of both parts of a cut, of the whole, holds
-  -- of each box and what it is cut into, with as many steps as it has open queries
+  -- of each box and what it is cut into, with as many steps as it has open questions
   pub split_induct : (P : B → List B → Type 0) → ((b : B) → Fine b → demands_known (r.answer b) ds ≡ Outside → P b []) → ((b : B) → Fine b → demands_known (r.answer b) ds ≡ Inside → P b (b ∷ []))
       → ((b : B) (q : Q) (xs ys : List B) → Fine b → Asks r ds b q → P (r.settle false b q) xs → P (r.settle true b q) ys → P b (xs ++ ys))
-      → (d : ℕ) (b : B) → Fine b → open_count (r.answer b) (queries_of ds) ≤ d → P b (split_by r ds d b)
+      → (d : ℕ) (b : B) → Fine b → open_count (r.answer b) (questions_of ds) ≤ d → P b (split_by r ds d b)
   split_induct P dropped given cut zero b f h = elim (known_cases (demands_known (r.answer b) ds)) [
     | inl k ↦ subst (P b) (sym (split_outside r ds 0 b k)) (dropped b f k)
     | inr (inl k) ↦ subst (P b) (sym (split_inside r ds 0 b k)) (given b f k)
@@ -256,7 +256,7 @@ module _ {B Q : Type 0} (r : Rules B Q) (Fine : B → Type 0) (Apt : Q → Type 
   pub boxes_induct : (P : B → List B → Type 0) → ((b : B) → Fine b → demands_known (r.answer b) ds ≡ Outside → P b []) → ((b : B) → Fine b → demands_known (r.answer b) ds ≡ Inside → P b (b ∷ []))
       → ((b : B) (q : Q) (xs ys : List B) → Fine b → Asks r ds b q → P (r.settle false b q) xs → P (r.settle true b q) ys → P b (xs ++ ys))
       → (b : B) → Fine b → P b (boxes_by r ds b)
-  boxes_induct P dropped given cut b f = split_induct P dropped given cut (length (queries_of ds)) b f (open_count_length (r.answer b) (queries_of ds))
+  boxes_induct P dropped given cut b f = split_induct P dropped given cut (length (questions_of ds)) b f (open_count_length (r.answer b) (questions_of ds))
 
   -- each box that is given has its demands met, and is of the kind
   pub boxes_done : (b : B) → Fine b → Each (λ x. (demands_known (r.answer x) ds ≡ Inside) × Fine x) (boxes_by r ds b)
@@ -265,19 +265,19 @@ module _ {B Q : Type 0} (r : Rules B Q) (Fine : B → Type 0) (Apt : Q → Type 
       (λ b f k x i. subst (λ y. (demands_known (r.answer y) ds ≡ Inside) × Fine y) (sym (In_one x b i)) (k, f))
       (λ b q xs ys f a g h x i. elim (In_append_cases xs ys x i) [ inl j ↦ g x j | inr j ↦ h x j ])
 
-  -- more steps than there are open queries change nothing
-  pub split_same : (d e : ℕ) (b : B) → Fine b → open_count (r.answer b) (queries_of ds) ≤ d → open_count (r.answer b) (queries_of ds) ≤ e → split_by r ds e b ≡ split_by r ds d b
+  -- more steps than there are open questions change nothing
+  pub split_same : (d e : ℕ) (b : B) → Fine b → open_count (r.answer b) (questions_of ds) ≤ d → open_count (r.answer b) (questions_of ds) ≤ e → split_by r ds e b ≡ split_by r ds d b
   split_same d e b f h k =
-      split_induct (λ (b : B) (xs : List B). (n : ℕ) → open_count (r.answer b) (queries_of ds) ≤ n → split_by r ds n b ≡ xs) (λ b f o n l. split_outside r ds n b o) (λ b f o n l. split_inside r ds n b o)
+      split_induct (λ (b : B) (xs : List B). (n : ℕ) → open_count (r.answer b) (questions_of ds) ≤ n → split_by r ds n b ≡ xs) (λ b f o n l. split_outside r ds n b o) (λ b f o n l. split_inside r ds n b o)
       (λ b q xs ys f a g h n l. cut b q xs ys f a g h n l) d b f h e k
     where
-      cut : (b : B) (q : Q) (xs ys : List B) → Fine b → Asks r ds b q → ((n : ℕ) → open_count (r.answer (r.settle false b q)) (queries_of ds) ≤ n → split_by r ds n (r.settle false b q) ≡ xs)
-          → ((n : ℕ) → open_count (r.answer (r.settle true b q)) (queries_of ds) ≤ n → split_by r ds n (r.settle true b q) ≡ ys) → (n : ℕ) → open_count (r.answer b) (queries_of ds) ≤ n → split_by r ds n b ≡ xs ++ ys
+      cut : (b : B) (q : Q) (xs ys : List B) → Fine b → Asks r ds b q → ((n : ℕ) → open_count (r.answer (r.settle false b q)) (questions_of ds) ≤ n → split_by r ds n (r.settle false b q) ≡ xs)
+          → ((n : ℕ) → open_count (r.answer (r.settle true b q)) (questions_of ds) ≤ n → split_by r ds n (r.settle true b q) ≡ ys) → (n : ℕ) → open_count (r.answer b) (questions_of ds) ≤ n → split_by r ds n b ≡ xs ++ ys
       cut b q xs ys f a g h zero l = absurd (omega (arith, fewer false b q f a))
       cut b q xs ys f a g h (suc n) l =
           split_more r ds n b q a ∙ ap₂ (λ x y. x ++ y) (g n (omega (arith, fewer false b q f a))) (h n (omega (arith, fewer true b q f a)))
 
-  pub never_stuck : (d : ℕ) (b : B) → Fine b → open_count (r.answer b) (queries_of ds) ≤ d → NeverStuck r ds d b
+  pub never_stuck : (d : ℕ) (b : B) → Fine b → open_count (r.answer b) (questions_of ds) ≤ d → NeverStuck r ds d b
   never_stuck zero b f h = λ k. let a = asks r ds b k in absurd (omega (arith, fewer false b a.0 f a.1))
   never_stuck (suc d) b f h = λ k.
       let a = asks r ds b k in
@@ -285,16 +285,16 @@ module _ {B Q : Type 0} (r : Rules B Q) (Fine : B → Type 0) (Apt : Q → Type 
 
   -- a broken box gives none, one that is done itself, and an open one the boxes of its two parts
   pub boxes_outside : (b : B) → demands_known (r.answer b) ds ≡ Outside → boxes_by r ds b ≡ []
-  boxes_outside = split_outside r ds (length (queries_of ds))
+  boxes_outside = split_outside r ds (length (questions_of ds))
 
   pub boxes_inside : (b : B) → demands_known (r.answer b) ds ≡ Inside → boxes_by r ds b ≡ b ∷ []
-  boxes_inside = split_inside r ds (length (queries_of ds))
+  boxes_inside = split_inside r ds (length (questions_of ds))
 
   pub boxes_more : (b : B) (q : Q) → Fine b → Asks r ds b q → boxes_by r ds b ≡ boxes_by r ds (r.settle false b q) ++ boxes_by r ds (r.settle true b q)
   boxes_more b q f a =
-      let n : ℕ = length (queries_of ds) in
+      let n : ℕ = length (questions_of ds) in
       let some = fewer false b q f a in
-      let l = open_count_length (r.answer b) (queries_of ds) in
+      let l = open_count_length (r.answer b) (questions_of ds) in
       let m : suc (n - 1) ≡ n = omega arith in
       let part : (w : Bool) → split_by r ds (n - 1) (r.settle w b q) ≡ split_by r ds n (r.settle w b q) =
       λ w. split_same n (n - 1) (r.settle w b q) (law.fine w b q f (apt q a.there) a.unknown) (omega (arith, fewer w b q f a)) (omega (arith, fewer w b q f a)) in

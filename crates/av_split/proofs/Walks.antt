@@ -13,12 +13,12 @@ use Rattle.av_split.specs.Split.{Demand, both, either, turned, all_of, some_of, 
 use Rattle.av_split.proofs.GenericSplit.{both_inside, both_out, either_in}
 use Rattle.av_split.specs.Cells.{IsStep, IsFirst, known_so, or_first, or_else, step_or, turned_step}
 
--- what the items gone through tell together where one that holds suffices and none did, by the first open cell or query
+-- what the items gone through tell together where one that holds suffices and none did, by the first open cell or question
 abbrev pub some_so : {X : Type 0} → Option X → Known
 some_so None = Outside
 some_so (Some x) = Open
 
--- the items before the rest told no more than the first open cell or query
+-- the items before the rest told no more than the first open cell or question
 pub record AllSo {A X : Type 0} (f : A → Known) (g : A → Option X) (found : Option X) (xs rest : List A) : Type 0 where
   pub known : all_of f xs ≡ both (known_so found) (all_of f rest)
   pub first : first_open f g xs ≡ or_else found (first_open f g rest)

@@ -23,8 +23,8 @@ use Rattle.av_name.specs.declared.constraints.Known.TheVariants.{Open}
 use Rattle.av_name.specs.Constraints.{free, answer}
 use Rattle.av_name.proofs.Answered.{inside_says, outside_says, outside_is, free_meets}
 use Rattle.av_name.proofs.Growth.{IsFit, avoid_fit, require_fit, answer_avoid, answer_require, meets_avoid, meets_require, clean_avoid, clean_require}
-use Rattle.av_split.specs.Split.{Demand, queries_of, all_of, some_of, demand_known}
-use Rattle.av_split.specs.Boxes.{Query, Box, child_of, added, word_rules, ask, queries, demand, demands, boxes}
+use Rattle.av_split.specs.Split.{Demand, questions_of, all_of, some_of, demand_known}
+use Rattle.av_split.specs.Boxes.{Question, Box, child_of, added, word_rules, ask, questions, demand, demands, boxes}
 use Rattle.av_split.specs.Laws.{IsTidy, Splits, SplitLaw}
 use Rattle.av_split.specs.Marks.{once}
 use Rattle.av_split.proofs.GenericSplit.{Met, MetIf, Lawful, Meant, Apart_at, boxes_cover, boxes_apart, boxes_done, split_same, never_stuck, open_count_length, each_inside, each_outside, one_outside, unflipped}
@@ -61,8 +61,8 @@ pub record Fine (k : ℕ) (b : Box) : Type 0 where
   pub fit : (i : ℕ) → i < k → IsFit (child_of b i)
   pub tidy : (i : ℕ) → i < k → IsTidy (child_of b i)
 
--- a query of one of `k` children
-pub record Apt (k : ℕ) (q : Query) : Type 0 where
+-- a question of one of `k` children
+pub record Apt (k : ℕ) (q : Question) : Type 0 where
   pub child : q.child < k
   pub word : IsWord q.word
 
@@ -117,8 +117,8 @@ word_law k = record {
 abbrev pub Lies : ℕ → List (List ℕ) → Box → Type 0
 Lies k αs b = (i : ℕ) → i < k → Meets (child_of b i).avoid (child_of b i).require (block αs i)
 
--- a query holds of it
-abbrev pub Holds : List (List ℕ) → Query → Type 0
+-- a question holds of it
+abbrev pub Holds : List (List ℕ) → Question → Type 0
 Holds αs q = Contains (block αs q.child) q.word
 
 -- what lies in the changed box
@@ -165,7 +165,7 @@ ask_In i [] h = absurd (h refl)
 ask_In i (x ∷ l) h = inl refl
 
 -- and nothing else
-pub In_ask : (i : ℕ) (l : List ℕ) (q : Query) → In q (ask i l) → (q ≡ record { child = i; word = pattern_of l }) × (l ≡ [] → ⊥)
+pub In_ask : (i : ℕ) (l : List ℕ) (q : Question) → In q (ask i l) → (q ≡ record { child = i; word = pattern_of l }) × (l ≡ [] → ⊥)
 In_ask i [] q h = absurd h
 In_ask i (x ∷ l) q (inl e) = (e, λ k. cc)
 In_ask i (x ∷ l) q (inr h) = absurd h
@@ -178,18 +178,18 @@ fibre_word γ e i w n = ((pattern_law).pattern (fibre γ e i) (some (fibre γ e 
     some [] n = absurd (n refl)
     some (x ∷ l) n = omega arith
 
--- the queries of an embedding are of the children
-pub queries_apt : (π γ e : List ℕ) (q : Query) → IsWord γ → In q (queries π γ e) → Apt (length π) q
-queries_apt π γ e q w i =
+-- the questions of an embedding are of the children
+pub questions_apt : (π γ e : List ℕ) (q : Question) → IsWord γ → In q (questions π γ e) → Apt (length π) q
+questions_apt π γ e q w i =
     let r = In_joined (λ j. ask j (fibre γ e (suc j))) (length π) q i in
     let a = In_ask r.0 (fibre γ e (suc r.0)) q r.2 in
     subst (Apt (length π)) (sym a.0) (record { child = r.1; word = fibre_word γ e (suc r.0) w a.1 })
 
--- the queries of some embedding hold exactly where the inflation contains the word
-pub some_contains : (π γ : List ℕ) (αs : List (List ℕ)) → IsWord π → AreBlocks π αs → SomeIn (Each (Holds αs)) (map (queries π γ) (embeddings π γ)) ↔ Contains (inflate π αs) γ
+-- the questions of some embedding hold exactly where the inflation contains the word
+pub some_contains : (π γ : List ℕ) (αs : List (List ℕ)) → IsWord π → AreBlocks π αs → SomeIn (Each (Holds αs)) (map (questions π γ) (embeddings π γ)) ↔ Contains (inflate π αs) γ
 some_contains π γ αs w b = (
   λ s.
-      let m = In_map (queries π γ) (embeddings π γ) s.0 s.1 in
+      let m = In_map (questions π γ) (embeddings π γ) s.0 s.1 in
       (embedding_law π γ αs w.numbers b).1 (
         m.0,
         embedding_from π γ m.0 m.1,
@@ -199,8 +199,8 @@ some_contains π γ αs w b = (
       ),
   λ c.
       let r = (embedding_law π γ αs w.numbers b).0 c in (
-        queries π γ r.0,
-        map_In (queries π γ) (embeddings π γ) r.0 (embedding_to π γ r.0 r.1),
+        questions π γ r.0,
+        map_In (questions π γ) (embeddings π γ) r.0 (embedding_to π γ r.0 r.1),
         λ q i.
             let j = In_joined (λ j. ask j (fibre γ r.0 (suc j))) (length π) q i in
             let a = In_ask j.0 (fibre γ r.0 (suc j.0)) q j.2 in
@@ -208,24 +208,24 @@ some_contains π γ αs w b = (
       ),
 )
 
--- what holds of each query of each embedding of each word of a name holds of each query of the name
-pub demands_each : (P : Query → Type 0) (π : List ℕ) (A R : List (List ℕ)) → ((γ e : List ℕ) → In γ A ⊎ In γ R → Each P (queries π γ e)) → Each P (queries_of (demands π A R))
+-- what holds of each question of each embedding of each word of a name holds of each question of the name
+pub demands_each : (P : Question → Type 0) (π : List ℕ) (A R : List (List ℕ)) → ((γ e : List ℕ) → In γ A ⊎ In γ R → Each P (questions π γ e)) → Each P (questions_of (demands π A R))
 demands_each P π A R h q i =
-    let d = In_flat_map (λ (d : Demand Query). flat_map (λ (m : List Query). m) d.embeddings) (demands π A R) q i in
-    let m = In_flat_map (λ (m : List Query). m) (d.0).embeddings q d.2 in
+    let d = In_flat_map (λ (d : Demand Question). flat_map (λ (m : List Question). m) d.embeddings) (demands π A R) q i in
+    let m = In_flat_map (λ (m : List Question). m) (d.0).embeddings q d.2 in
     of_demand d.0 m.0 (elim (In_append_cases (map (demand π false) A) (map (demand π true) R) d.0 d.1) [
-      | inl j ↦ let g = In_map (demand π false) A d.0 j in (g.0, inl g.1, ap (λ (e : Demand Query). e.embeddings) g.2)
-      | inr j ↦ let g = In_map (demand π true) R d.0 j in (g.0, inr g.1, ap (λ (e : Demand Query). e.embeddings) g.2)
+      | inl j ↦ let g = In_map (demand π false) A d.0 j in (g.0, inl g.1, ap (λ (e : Demand Question). e.embeddings) g.2)
+      | inr j ↦ let g = In_map (demand π true) R d.0 j in (g.0, inr g.1, ap (λ (e : Demand Question). e.embeddings) g.2)
     ]) m.1 m.2
   where
-    of_demand : (d : Demand Query) (m : List Query) → (γ : List ℕ) × (In γ A ⊎ In γ R) × (d.embeddings ≡ map (queries π γ) (embeddings π γ)) → In m d.embeddings → In q m → P q
+    of_demand : (d : Demand Question) (m : List Question) → (γ : List ℕ) × (In γ A ⊎ In γ R) × (d.embeddings ≡ map (questions π γ) (embeddings π γ)) → In m d.embeddings → In q m → P q
     of_demand d m g i j =
-        let e = In_map (queries π g.0) (embeddings π g.0) m (subst (In m) g.2 i) in
+        let e = In_map (questions π g.0) (embeddings π g.0) m (subst (In m) g.2 i) in
         h g.0 e.0 g.1 q (subst (In q) e.2 j)
 
--- the queries of a name are of the children
-pub demands_apt : (π : List ℕ) (A R : List (List ℕ)) → Each IsWord A → Each IsWord R → Each (Apt (length π)) (queries_of (demands π A R))
-demands_apt π A R ga gr = demands_each (Apt (length π)) π A R (λ γ e o q i. queries_apt π γ e q (word γ o) i)
+-- the questions of a name are of the children
+pub demands_apt : (π : List ℕ) (A R : List (List ℕ)) → Each IsWord A → Each IsWord R → Each (Apt (length π)) (questions_of (demands π A R))
+demands_apt π A R ga gr = demands_each (Apt (length π)) π A R (λ γ e o q i. questions_apt π γ e q (word γ o) i)
   where
     word : (γ : List ℕ) → In γ A ⊎ In γ R → IsWord γ
     word γ (inl j) = ga γ j
@@ -295,23 +295,23 @@ pub child_avoids : (π : List ℕ) (A R : List (List ℕ)) (γ : List ℕ) (x : 
     → (a : List ℕ) × In a (child_of x i).avoid × Contains γ a
 child_avoids π A R γ x i ga gr inA hx hi =
     let k : ℕ = length π in
-    let ds : List (Demand Query) = demands π A R in
+    let ds : List (Demand Question) = demands π A R in
     let start : Box = replicate (length π) free in
-    let f : Query → Known = word_rules.answer x in
+    let f : Question → Known = word_rules.answer x in
     let done = (boxes_done word_rules (Fine k) (Apt k) (word_law k) ds (demands_apt π A R ga gr) start (start_fine k) x hx).0 in
     let d = each_inside (demand_known f) ds done (demand π false γ) (append_left (map (demand π false) A) (map (demand π true) R) (demand π false γ) (map_In (demand π false) A γ inA)) in
-    let out = unflipped (some_of (all_of f) (map (queries π γ) (embeddings π γ))) d in
+    let out = unflipped (some_of (all_of f) (map (questions π γ) (embeddings π γ))) d in
     let e : List ℕ = replicate (length γ) (suc i) in
-    let m = each_outside (all_of f) (map (queries π γ) (embeddings π γ)) out (queries π γ e) (map_In (queries π γ) (embeddings π γ) e (embedding_to π γ e (constant π γ i hi))) in
-    let q = one_outside f (queries π γ e) m in
+    let m = each_outside (all_of f) (map (questions π γ) (embeddings π γ)) out (questions π γ e) (map_In (questions π γ) (embeddings π γ) e (embedding_to π γ e (constant π γ i hi))) in
+    let q = one_outside f (questions π γ e) m in
     let j = In_joined (λ n. ask n (fibre γ e (suc n))) (length π) q.0 q.1 in
     let asked = In_ask j.0 (fibre γ e (suc j.0)) q.0 j.2 in
     let item = nonempty_has (fibre γ e (suc j.0)) asked.1 in
     let place = fibre_at γ e (suc j.0) item.0 0 item.1 in
     let here : suc j.0 ≡ suc i = sym place.3 ∙ get_or-replicate (length γ) place.0 (suc i) 0 place.1 in
     let word : pattern_of (fibre γ e (suc j.0)) ≡ γ = ap (λ n. pattern_of (fibre γ e n)) here ∙ ap pattern_of (constant_fibre γ (suc i)) ∙ word_pattern γ (ga γ inA).numbers in
-    let child : q.0.child ≡ i = ap (λ (p : Query). p.child) asked.0 ∙ omega (arith, here) in
-    let text : q.0.word ≡ γ = ap (λ (p : Query). p.word) asked.0 ∙ word in
+    let child : q.0.child ≡ i = ap (λ (p : Question). p.child) asked.0 ∙ omega (arith, here) in
+    let text : q.0.word ≡ γ = ap (λ (p : Question). p.word) asked.0 ∙ word in
     let o = ((outside_is (child_of x q.0.child) q.0.word).0 q.2).1 in
     (o.0, subst (λ n. In o.0 (child_of x n).avoid) child o.1, subst (λ v. Contains v o.0) text o.2)
 
@@ -332,16 +332,16 @@ split_is π A R w ga gr = record {
   sized = λ b i. (box_fine π A R b ga gr i).count;
   tidy = λ b i. (box_fine π A R b ga gr i).tidy;
   kept = λ γ g b i j h. child_avoids π A R γ b j ga gr g i h;
-  never_stuck = never_stuck word_rules (Fine k) (Apt k) (word_law k) ds apt (length (queries_of ds)) start fine (open_count_length (word_rules.answer start) (queries_of ds));
+  never_stuck = never_stuck word_rules (Fine k) (Apt k) (word_law k) ds apt (length (questions_of ds)) start fine (open_count_length (word_rules.answer start) (questions_of ds));
   enough = λ d h.
-      let l = open_count_length (word_rules.answer start) (queries_of ds) in
-      split_same word_rules (Fine k) (Apt k) (word_law k) ds apt (length (queries_of ds)) d start fine l (omega (arith, l));
+      let l = open_count_length (word_rules.answer start) (questions_of ds) in
+      split_same word_rules (Fine k) (Apt k) (word_law k) ds apt (length (questions_of ds)) d start fine l (omega (arith, l));
 }
   where
     k : ℕ
     k = length π
 
-    ds : List (Demand Query)
+    ds : List (Demand Question)
     ds = demands π A R
 
     start : Box
@@ -350,7 +350,7 @@ split_is π A R w ga gr = record {
     fine : Fine k start
     fine = start_fine (length π)
 
-    apt : Each (Apt k) (queries_of ds)
+    apt : Each (Apt k) (questions_of ds)
     apt = demands_apt π A R ga gr
 
 -- the law of the split

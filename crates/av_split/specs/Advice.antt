@@ -1,11 +1,11 @@
 -- What is known of a box of a root and a name: no list of blocks in it has an inflation that avoids the avoided words and
--- contains the required ones, each has, or a query tells more.
+-- contains the required ones, each has, or a question tells more.
 use Rattle.std.specs.Prelude.{◌≡◌, ℕ, ◌<◌, List, length, Some}
 use Rattle.av_perm.specs.Relations.{IsWord, AreWords, AreBlocks, inflate}
 use Rattle.av_sys.specs.Names.{Meets}
 use Rattle.av_name.specs.declared.constraints.Known.TheVariants.{In as Inside, Out as Outside, Open}
-use Rattle.av_split.specs.Split.{demands_known, next_query}
-use Rattle.av_split.specs.Boxes.{Query, Box, word_rules, demands}
+use Rattle.av_split.specs.Split.{demands_known, next_question}
+use Rattle.av_split.specs.Boxes.{Question, Box, word_rules, demands}
 use Rattle.av_split.specs.Laws.{LiesIn}
 
 -- of any box
@@ -13,7 +13,7 @@ pub record Advises (π : List ℕ) (A R : List (List ℕ)) (b : Box) : Type 0 wh
   pub broken : demands_known (word_rules.answer b) (demands π A R) ≡ Outside → (αs : List (List ℕ)) → AreBlocks π αs → LiesIn π αs b → Meets A R (inflate π αs) → ⊥
   pub done : demands_known (word_rules.answer b) (demands π A R) ≡ Inside → (αs : List (List ℕ)) → AreBlocks π αs → LiesIn π αs b → Meets A R (inflate π αs)
   pub asks : demands_known (word_rules.answer b) (demands π A R) ≡ Open
-      → (q : Query) × (next_query (word_rules.answer b) (demands π A R) ≡ Some q) × (word_rules.answer b q ≡ Open) × (q.child < length π) × IsWord q.word
+      → (q : Question) × (next_question (word_rules.answer b) (demands π A R) ≡ Some q) × (word_rules.answer b q ≡ Open) × (q.child < length π) × IsWord q.word
 
 -- so of every root and name
 abbrev pub AdviceLaw : Type 0

@@ -1,4 +1,4 @@
--- Queries by number: a table of children by patterns, and what is known of each of its cells.
+-- Questions by number: a table of children by patterns, and what is known of each of its cells.
 use Rattle.std.specs.Prelude.{◌≡◌, ℕ, ◌<◌, Bool, true, false, List, [], ◌∷◌, ◌++◌, map, length, get_or, Option, Some, None}
 use Rattle.av_perm.specs.Members.{In}
 use Rattle.av_perm.specs.Contain.{contains}
@@ -10,7 +10,7 @@ use Rattle.av_split.specs.Marks.{unmarked}
 use Rattle.av_split.specs.declared.steps.Step.{Step}
 use Rattle.av_split.specs.declared.steps.Step.TheVariants.{Holds, Fails, Asks}
 use Rattle.av_split.specs.Split.{Demand, all_of, first_open}
-use Rattle.av_split.specs.Boxes.{Query}
+use Rattle.av_split.specs.Boxes.{Question}
 
 -- the second list begins with the first
 abbrev pub Extends : List (List ℕ) → List (List ℕ) → Type 0
@@ -23,27 +23,27 @@ Pointwise R (x ∷ xs) (y ∷ ys) = R x y × Pointwise R xs ys
 Pointwise R [] (y ∷ ys) = ⊥
 Pointwise R (x ∷ xs) [] = ⊥
 
--- the query of a cell
-abbrev pub query_at : List (List ℕ) → Cell → Query
-query_at ps cell = record { child = cell.child; word = get_or ps cell.pattern [] }
+-- the question of a cell
+abbrev pub question_at : List (List ℕ) → Cell → Question
+question_at ps cell = record { child = cell.child; word = get_or ps cell.pattern [] }
 
--- the cell, of `k` children and these patterns, is that of the query
-pub record IsQueryOf (k : ℕ) (ps : List (List ℕ)) (cell : Cell) (q : Query) : Type 0 where
+-- the cell, of `k` children and these patterns, is that of the question
+pub record IsQuestionOf (k : ℕ) (ps : List (List ℕ)) (cell : Cell) (q : Question) : Type 0 where
   pub child : cell.child < k
   pub pattern : cell.pattern < length ps
-  pub query : query_at ps cell ≡ q
+  pub question : question_at ps cell ≡ q
 
--- cells of queries
-abbrev pub AreQueriesOf : ℕ → List (List ℕ) → List Cell → List Query → Type 0
-AreQueriesOf k ps = Pointwise (IsQueryOf k ps)
+-- cells of questions
+abbrev pub AreQuestionsOf : ℕ → List (List ℕ) → List Cell → List Question → Type 0
+AreQuestionsOf k ps = Pointwise (IsQuestionOf k ps)
 
--- a demand with cells for its queries
-pub record IsDemandOf (k : ℕ) (ps : List (List ℕ)) (d : Demand Cell) (e : Demand Query) : Type 0 where
+-- a demand with cells for its questions
+pub record IsDemandOf (k : ℕ) (ps : List (List ℕ)) (d : Demand Cell) (e : Demand Question) : Type 0 where
   pub required : d.required ≡ e.required
-  pub embeddings : Pointwise (AreQueriesOf k ps) d.embeddings e.embeddings
+  pub embeddings : Pointwise (AreQuestionsOf k ps) d.embeddings e.embeddings
 
--- demands with cells for their queries
-abbrev pub AreDemandsOf : ℕ → List (List ℕ) → List (Demand Cell) → List (Demand Query) → Type 0
+-- demands with cells for their questions
+abbrev pub AreDemandsOf : ℕ → List (List ℕ) → List (Demand Cell) → List (Demand Question) → Type 0
 AreDemandsOf k ps = Pointwise (IsDemandOf k ps)
 
 -- which of the patterns contain which
@@ -103,7 +103,7 @@ abbrev pub or_else : {X : Type 0} → Option X → Option X → Option X
 or_else None o = o
 or_else (Some x) o = Some x
 
--- what items that were gone through tell together where none fails, by the first open cell or query
+-- what items that were gone through tell together where none fails, by the first open cell or question
 abbrev pub known_so : {X : Type 0} → Option X → Known
 known_so None = Inside
 known_so (Some x) = Open

@@ -12,11 +12,11 @@ use Rattle.av_split.specs.declared.path.Path.{Path}
 use Rattle.av_split.specs.declared.path.Turn.{Turn}
 use Rattle.av_split.specs.declared.steps.Step.{Step}
 use Rattle.av_split.specs.declared.steps.Step.TheVariants.{Holds, Fails, Asks}
-use Rattle.av_split.specs.Split.{Demand, demand_known, demands_known, next_query, all_of, boxes_by}
-use Rattle.av_split.specs.Boxes.{Query, Box, word_rules, demands}
+use Rattle.av_split.specs.Split.{Demand, demand_known, demands_known, next_question, all_of, boxes_by}
+use Rattle.av_split.specs.Boxes.{Question, Box, word_rules, demands}
 use Rattle.av_split.specs.Laws.{IsTidy}
 use Rattle.av_split.specs.Marks.{unmarked, IsSettled, constraint_of, box_of}
-use Rattle.av_split.specs.Cells.{AreDemandsOf, query_at, known_at, AreSafe}
+use Rattle.av_split.specs.Cells.{AreDemandsOf, question_at, known_at, AreSafe}
 
 -- the marks of a child are what its constraint tells of the patterns
 pub record IsRow (ps : List (List ℕ)) (row : List Mark) : Type 0 where
@@ -40,7 +40,7 @@ before t rows = set rows t.cell.child t.row
 pub record IsOpen (k : ℕ) (ps : List (List ℕ)) (asked : List (Demand Cell)) (rows : List (List Mark)) (n : ℕ) (cell : Cell) : Type 0 where
   pub marks : AreRows k ps rows
   pub known : demands_known (known_at rows) asked ≡ Open
-  pub next : next_query (known_at rows) asked ≡ Some cell
+  pub next : next_question (known_at rows) asked ≡ Some cell
   pub within : n ≤ length asked
   pub done : all_of (demand_known (known_at rows)) (take n asked) ≡ Inside
 
@@ -60,7 +60,7 @@ pub record IsPath (k : ℕ) (ps : List (List ℕ)) (asked : List (Demand Cell)) 
 -- the parts that a path leaves for later, from its last cut on
 abbrev pub parts_left : List (List ℕ) → List Turn → List (List Mark) → List Box
 parts_left ps [] rows = []
-parts_left ps (t ∷ turns) rows = cond t.required [] (word_rules.settle true (box_of ps (before t rows)) (query_at ps t.cell) ∷ []) ++ parts_left ps turns (before t rows)
+parts_left ps (t ∷ turns) rows = cond t.required [] (word_rules.settle true (box_of ps (before t rows)) (question_at ps t.cell) ∷ []) ++ parts_left ps turns (before t rows)
 
 -- the box that a path leads to, and the parts that it leaves for later
 abbrev pub parts_of : List (List ℕ) → Option Path → List Box
@@ -68,7 +68,7 @@ parts_of ps None = []
 parts_of ps (Some p) = box_of ps p.rows.items ∷ parts_left ps (reverse p.turns.items) p.rows.items
 
 -- the boxes that they give
-abbrev pub left_of : List (Demand Query) → List (List ℕ) → Option Path → List Box
+abbrev pub left_of : List (Demand Question) → List (List ℕ) → Option Path → List Box
 left_of ds ps p = flat_map (boxes_by word_rules ds) (parts_of ps p)
 
 -- the path, unless none is left, is of a root and a name, whose demands have these cells

@@ -3,10 +3,10 @@ ghost use Rattle.std.specs.Prelude.{◌≡◌, ◌≤◌, ◌<◌, ◌++◌, [],
 ghost use Rattle.av_perm.specs.Inflate.{joined};
 ghost use Rattle.av_embed.specs.Embed.{fibre, embeddings};
 ghost use Rattle.av_name.specs.declared.constraints.Known.{Known};
-ghost use Rattle.av_split.specs.Split.{both, all_of, some_of, first_open, demand_known, demands_known, next_query, Demand};
-ghost use Rattle.av_split.specs.Boxes.{Query, word_rules, ask, queries, demand, demands};
+ghost use Rattle.av_split.specs.Split.{both, all_of, some_of, first_open, demand_known, demands_known, next_question, Demand};
+ghost use Rattle.av_split.specs.Boxes.{Question, word_rules, ask, questions, demand, demands};
 ghost use Rattle.av_split.specs.Cells.{known_so, or_first, or_else};
-ghost use Rattle.av_split.specs.Gathering.{IsWordStep, IsWholeStep, queried, turned_word_step, word_step_or, word_query, IsGathered, IsAdvice, MayAsk};
+ghost use Rattle.av_split.specs.Gathering.{IsWordStep, IsWholeStep, question_asked, turned_word_step, word_step_or, word_question, IsGathered, IsAdvice, MayAsk};
 
 use crate::boxes::SplitBox;
 use av_embed::{Embeddings, Map, fibre};
@@ -14,18 +14,18 @@ use av_name::{Known, answer};
 use av_perm::{MAX_LENGTH, MAX_PATTERN_LENGTH, MAX_ROOT_LENGTH, Perm, Words};
 use av_sys::Name;
 
-// What is known of queries together.
+// What is known of questions together.
 #[derive(Drop)]
 pub enum WordStep {
     // It holds.
     Holds,
     // It doesn't.
     Fails,
-    // It is open, and so is this query, the first: whether the child, from 0 on, contains the word.
+    // It is open, and so is this question, the first: whether the child, from 0 on, contains the word.
     Asks { child: usize, word: Perm },
 }
 
-// A query that is open.
+// A question that is open.
 #[derive(Drop)]
 pub struct Asked {
     child: usize,
@@ -34,7 +34,7 @@ pub struct Asked {
 
 // What is known of two together.
 fn both_steps(first: WordStep, second: WordStep) -> WordStep
-    ensures { (k l : Known) (o p : Option Query) → IsWholeStep first k o → IsWholeStep second l p → IsWholeStep result (both k l) (or_else o p) }
+    ensures { (k l : Known) (o p : Option Question) → IsWholeStep first k o → IsWholeStep second l p → IsWholeStep result (both k l) (or_else o p) }
 {
     match first {
         WordStep::Fails => WordStep::Fails,
@@ -46,12 +46,12 @@ fn both_steps(first: WordStep, second: WordStep) -> WordStep
     }
 }
 
-// What is known of the query of a child, where some places of the word go to it.
+// What is known of the question of a child, where some places of the word go to it.
 fn child_step(cell: &SplitBox, word: &Perm, places: &Map, child: usize) -> WordStep
     requires places { length places.now ≡ length word.now }
     requires here { child < length cell.now }
     requires small { child < MAX_LENGTH }
-    ensures { IsWholeStep result (all_of (word_rules.answer cell.now) (ask child (fibre word.now places.now (suc child)))) (first_open (word_rules.answer cell.now) (λ (q : Query). Some q) (ask child (fibre word.now places.now (suc child)))) }
+    ensures { IsWholeStep result (all_of (word_rules.answer cell.now) (ask child (fibre word.now places.now (suc child)))) (first_open (word_rules.answer cell.now) (λ (q : Question). Some q) (ask child (fibre word.now places.now (suc child)))) }
 {
     match fibre(word, places, child + 1) {
         Some(pattern) => match answer(cell.get(child), &pattern) {
@@ -70,7 +70,7 @@ fn child_step(cell: &SplitBox, word: &Perm, places: &Map, child: usize) -> WordS
 fn embedding_step(cell: &SplitBox, word: &Perm, places: &Map) -> WordStep
     requires places { length places.now ≡ length word.now }
     requires small { length cell.now ≤ MAX_ROOT_LENGTH }
-    ensures { IsWholeStep result (all_of (word_rules.answer cell.now) (joined (λ i. ask i (fibre word.now places.now (suc i))) (length cell.now))) (first_open (word_rules.answer cell.now) (λ (q : Query). Some q) (joined (λ i. ask i (fibre word.now places.now (suc i))) (length cell.now))) }
+    ensures { IsWholeStep result (all_of (word_rules.answer cell.now) (joined (λ i. ask i (fibre word.now places.now (suc i))) (length cell.now))) (first_open (word_rules.answer cell.now) (λ (q : Question). Some q) (joined (λ i. ask i (fibre word.now places.now (suc i))) (length cell.now))) }
 {
     let mut step = WordStep::Holds;
     for child in 0..cell.len() {
@@ -79,9 +79,9 @@ fn embedding_step(cell: &SplitBox, word: &Perm, places: &Map) -> WordStep
     step
 }
 
-// The first of two queries.
+// The first of two questions.
 fn or_asked(found: Option<Asked>, child: usize, word: Perm) -> Option<Asked>
-    ensures { queried result ≡ or_first (queried found) (word_query child word) }
+    ensures { question_asked result ≡ or_first (question_asked found) (word_question child word) }
 {
     match found {
         Some(first) => Some(first),
@@ -89,7 +89,7 @@ fn or_asked(found: Option<Asked>, child: usize, word: Perm) -> Option<Asked>
     }
 }
 
-// The step to the query that was kept, or else another.
+// The step to the question that was kept, or else another.
 fn step_or(found: Option<Asked>, step: WordStep) -> WordStep
     ensures { result ≡ word_step_or found step }
 {
@@ -122,7 +122,7 @@ fn some_step(root: &Perm, word: &Perm, cell: &SplitBox) -> WordStep
     requires small { length root.now ≤ MAX_ROOT_LENGTH }
     requires short { length word.now ≤ MAX_PATTERN_LENGTH }
     requires sized { length cell.now ≡ length root.now }
-    ensures { IsWordStep result (some_of (all_of (word_rules.answer cell.now)) (map (queries root.now word.now) (embeddings root.now word.now))) (first_open (all_of (word_rules.answer cell.now)) (λ (m : List Query). first_open (word_rules.answer cell.now) (λ (q : Query). Some q) m) (map (queries root.now word.now) (embeddings root.now word.now))) }
+    ensures { IsWordStep result (some_of (all_of (word_rules.answer cell.now)) (map (questions root.now word.now) (embeddings root.now word.now))) (first_open (all_of (word_rules.answer cell.now)) (λ (m : List Question). first_open (word_rules.answer cell.now) (λ (q : Question). Some q) m) (map (questions root.now word.now) (embeddings root.now word.now))) }
 {
     // Its length tells that it is a word.
     let _len = word.len();
@@ -143,12 +143,12 @@ fn demand_step(root: &Perm, required: bool, word: &Perm, cell: &SplitBox) -> Wor
     requires small { length root.now ≤ MAX_ROOT_LENGTH }
     requires short { length word.now ≤ MAX_PATTERN_LENGTH }
     requires sized { length cell.now ≡ length root.now }
-    ensures { IsWordStep result (demand_known (word_rules.answer cell.now) (demand root.now required word.now)) (first_open (all_of (word_rules.answer cell.now)) (λ (m : List Query). first_open (word_rules.answer cell.now) (λ (q : Query). Some q) m) (map (queries root.now word.now) (embeddings root.now word.now))) }
+    ensures { IsWordStep result (demand_known (word_rules.answer cell.now) (demand root.now required word.now)) (first_open (all_of (word_rules.answer cell.now)) (λ (m : List Question). first_open (word_rules.answer cell.now) (λ (q : Question). Some q) m) (map (questions root.now word.now) (embeddings root.now word.now))) }
 {
     turned_step(required, some_step(root, word, cell))
 }
 
-// What demands that were gone through tell: one is broken, or none is, with the first open query.
+// What demands that were gone through tell: one is broken, or none is, with the first open question.
 #[derive(Drop)]
 pub enum Gathered {
     Broken,
@@ -167,7 +167,7 @@ fn gather(
     requires small { length root.now ≤ MAX_ROOT_LENGTH }
     requires short { All (λ w. length w ≤ MAX_PATTERN_LENGTH) words.now }
     requires sized { length cell.now ≡ length root.now }
-    ensures { IsGathered cell.now result (queried found) (map (demand root.now required) words.now) }
+    ensures { IsGathered cell.now result (question_asked found) (map (demand root.now required) words.now) }
 {
     let mut kept = found;
     for word in words.as_slice() {
@@ -194,7 +194,7 @@ pub enum Advice {
 // The advice where no demand is broken.
 fn advice_of(found: Option<Asked>) -> Advice
     requires { MayAsk found }
-    ensures { (k : Known) (o : Option Query) → k ≡ known_so (queried found) → o ≡ queried found → IsAdvice result k o }
+    ensures { (k : Known) (o : Option Question) → k ≡ known_so (question_asked found) → o ≡ question_asked found → IsAdvice result k o }
 {
     match found {
         None => Advice::Done,
@@ -208,7 +208,7 @@ fn advice_of(found: Option<Asked>) -> Advice
 /// What is known of a box of a root and a name. The root has 2 to 10 entries, the words of the name have at most 12, and the
 /// box has a constraint for each child. To avoid a word is to avoid it by each of its embeddings into the root, and to contain
 /// one is to contain it by some embedding: these are the demands of the name. `Broken` comes exactly where the box breaks some
-/// demand, `Done` exactly where it meets all, and otherwise the first open query of the first open embedding of the first open
+/// demand, `Done` exactly where it meets all, and otherwise the first open question of the first open embedding of the first open
 /// demand is asked. It takes no memory.
 pub fn advise(root: &Perm, name: &Name, cell: &SplitBox) -> Advice
     requires root { 2 ≤ length root.now }
@@ -216,7 +216,7 @@ pub fn advise(root: &Perm, name: &Name, cell: &SplitBox) -> Advice
     requires avoid { All (λ w. length w ≤ MAX_PATTERN_LENGTH) name.now.avoid }
     requires require { All (λ w. length w ≤ MAX_PATTERN_LENGTH) name.now.require }
     requires sized { length cell.now ≡ length root.now }
-    ensures { IsAdvice result (demands_known (word_rules.answer cell.now) (demands root.now name.now.avoid name.now.require)) (next_query (word_rules.answer cell.now) (demands root.now name.now.avoid name.now.require)) }
+    ensures { IsAdvice result (demands_known (word_rules.answer cell.now) (demands root.now name.now.avoid name.now.require)) (next_question (word_rules.answer cell.now) (demands root.now name.now.avoid name.now.require)) }
 {
     // Their lengths tell that these are words.
     let _avoid = name.avoid.len();

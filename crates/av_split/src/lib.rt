@@ -5,7 +5,7 @@ mod advising;
 /// The demands of a name at a root, with the numbers of their patterns.
 pub mod asked;
 mod boxes;
-/// Queries by number: cells of a table of children by patterns.
+/// Questions by number: cells of a table of children by patterns.
 pub mod cells;
 #[cfg(test)]
 mod filter_tests;

@@ -8,7 +8,7 @@ use crate::table::Table;
 use av_perm::Memory;
 use std::mem;
 
-/// A box that was cut by the query of a cell, and which of its parts is on the path.
+/// A box that was cut by the question of a cell, and which of its parts is on the path.
 #[derive(Drop)]
 pub struct Turn {
     pub cell: Cell,

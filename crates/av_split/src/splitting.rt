@@ -46,8 +46,8 @@ impl<'a> Boxes<'a> {
     /// 12. No list of blocks lies in two of the boxes, and one lies in some box exactly where the inflation of the root by
     /// these blocks avoids the avoided words of the name and contains the required ones.
     ///
-    /// A box that leaves a demand open is cut by the first open query of its first open embedding: into the box in which
-    /// the child avoids the query's word, and the box in which it contains it. Source of the embeddings: Bassino, Bouvel,
+    /// A box that leaves a demand open is cut by the first open question of its first open embedding: into the box in which
+    /// the child avoids the question's word, and the box in which it contains it. Source of the embeddings: Bassino, Bouvel,
     /// Pierrot, Pivoteau and Rossin, An algorithm computing combinatorial specifications of permutation classes, 2017.
     pub fn new(alloc: Global, root: &'a Perm, name: &'a Name) -> Result<Boxes<'a>, Memory>
         requires root { 2 ≤ length root.now }
@@ -128,7 +128,7 @@ fn find(
     Ok((None, None))
 }
 
-// A box that is done is given, a broken one is dropped, and an open one is cut by the query of its first open cell: the part
+// A box that is done is given, a broken one is dropped, and an open one is cut by the question of its first open cell: the part
 // in which its pattern is avoided comes before that in which it is required.
 fn advance(
     alloc: Global,
@@ -154,8 +154,8 @@ fn advance(
 /// No list of blocks lies in two of the boxes, and one lies in some box exactly where the inflation of the root by these
 /// blocks avoids the avoided words of the name and contains the required ones.
 ///
-/// A box that leaves a demand open is cut by the first open query of its first open embedding: into the box in which the
-/// child avoids the query's word, and the box in which it contains it. Source of the embeddings: Bassino, Bouvel, Pierrot,
+/// A box that leaves a demand open is cut by the first open question of its first open embedding: into the box in which the
+/// child avoids the question's word, and the box in which it contains it. Source of the embeddings: Bassino, Bouvel, Pierrot,
 /// Pivoteau and Rossin, An algorithm computing combinatorial specifications of permutation classes, 2017.
 pub fn split(alloc: Global, root: &Perm, name: &Name) -> Result<BoxList, Memory>
     requires root { 2 ≤ length root.now }

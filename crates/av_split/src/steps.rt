@@ -1,7 +1,7 @@
 // What is known of the demands in a box, and what to ask next.
 ghost use Rattle.std.specs.Prelude.{◌≡◌, ◌<◌, ◌≤◌, ◌+◌, Some, Option, true, false, length, take, drop};
 ghost use Rattle.av_name.specs.declared.constraints.Known.{Known};
-ghost use Rattle.av_split.specs.Split.{all_of, some_of, demand_known, demands_known, first_open, next_query};
+ghost use Rattle.av_split.specs.Split.{all_of, some_of, demand_known, demands_known, first_open, next_question};
 ghost use Rattle.av_split.specs.Cells.{known_at, IsCellOf, AreCellsOf, HasCellsOf, HaveCellsOf, IsStep, first_cell, IsFirst, AreSafe, or_first, step_or, turned_step};
 ghost use Rattle.av_split.specs.declared.cells.Cell.{Cell};
 
@@ -10,7 +10,7 @@ use crate::path::Path;
 use crate::rows::Row;
 use av_name::Known;
 
-/// What is known of queries together.
+/// What is known of questions together.
 #[derive(Clone, Copy)]
 pub enum Step {
     /// It holds.
@@ -49,7 +49,7 @@ pub fn step_or(found: Option<Cell>, step: Step) -> Step
     }
 }
 
-// An embedding holds where all its queries do.
+// An embedding holds where all its questions do.
 fn embedding_step(rows: &[Row], cells: &Cells) -> Step
     requires { AreCellsOf rows.now cells.now }
     ensures { IsStep result (all_of (known_at rows.now) cells.now) (first_open (known_at rows.now) (λ cell. Some cell) cells.now) }
@@ -179,7 +179,7 @@ pub fn rows_step(
     requires safe { AreSafe last (demand_known (known_at rows.now)) demands.now }
     ensures within { result.0 ≤ length demands.now }
     ensures done { all_of (demand_known (known_at rows.now)) (take result.0 demands.now) ≡ Known.In }
-    ensures step { IsStep result.1 (demands_known (known_at rows.now) demands.now) (next_query (known_at rows.now) demands.now) }
+    ensures step { IsStep result.1 (demands_known (known_at rows.now) demands.now) (next_question (known_at rows.now) demands.now) }
 {
     let (first, step) = first_step(rows, demands, from);
     match step {
@@ -203,7 +203,7 @@ pub fn next_step(path: &Path, demands: &CellDemands) -> (usize, Step)
     requires safe { AreSafe path.now.last (demand_known (known_at path.now.rows.items)) demands.now }
     ensures within { result.0 ≤ length demands.now }
     ensures done { all_of (demand_known (known_at path.now.rows.items)) (take result.0 demands.now) ≡ Known.In }
-    ensures step { IsStep result.1 (demands_known (known_at path.now.rows.items) demands.now) (next_query (known_at path.now.rows.items) demands.now) }
+    ensures step { IsStep result.1 (demands_known (known_at path.now.rows.items) demands.now) (next_question (known_at path.now.rows.items) demands.now) }
 {
     rows_step(&path.rows, path.from, path.last, demands)
 }

@@ -45,7 +45,7 @@ alive_count F [] us a = ap (inside_count F) (sym a)
 alive_count F (t ∷ ts) us (inl a) = ap (one_more (term_known F t)) (alive_count F ts a.0 a.2) ∙ ap (inside_count F) (sym a.1)
 alive_count F (t ∷ ts) us (inr a) = ap (λ k. one_more k (inside_count F ts)) a.0 ∙ alive_count F ts us a.1
 
--- and the first open query
+-- and the first open question
 pub alive_next : (F : Cell → Known) (ts us : List (List (Literal Cell))) → AreAlive (term_known F) ts us → next_of_terms F ts ≡ next_of_terms F us
 alive_next F [] us a = ap (next_of_terms F) (sym a)
 alive_next F (t ∷ ts) us (inl a) = ap (at_open (term_known F t) (first_open (literal_known F) literal_cell t)) (alive_next F ts a.0 a.2) ∙ ap (next_of_terms F) (sym a.1)

@@ -12,9 +12,9 @@ use Rattle.av_sys.specs.declared.terms.Term.TheVariants.{Point, Node}
 use Rattle.av_sys.specs.declared.terms.Equation.{Equation}
 use Rattle.av_sys.specs.declared.terms.System.{System}
 use Rattle.av_split.specs.declared.cells.Cell.{Cell}
-use Rattle.av_split.specs.Boxes.{Query}
+use Rattle.av_split.specs.Boxes.{Question}
 use Rattle.av_split.specs.Cells.{Extends}
-use Rattle.av_split.proofs.Numbered.{pointwise_more, pointwise_snoc, query_more, take_more}
+use Rattle.av_split.proofs.Numbered.{pointwise_more, pointwise_snoc, question_more, take_more}
 use Rattle.av_walk.specs.Walk.{Literal}
 use Rattle.av_walk.specs.Leaves.{name_of_equation, names_at, names_of_root, asks, child_literals, literals}
 use Rattle.av_walk.specs.Numbers.{IsLiteralOf, AreLiteralsOf, AreTermsOf}
@@ -32,32 +32,32 @@ ascending_is (w ∷ []) h = refl
 ascending_is (w ∷ v ∷ ws) h = ap (insert_word w) (ascending_is (v ∷ ws) (λ i l. h (suc i) (omega arith))) ∙ ap (λ o. insert_by o w v ws (insert_word w ws)) (h 0 (omega arith))
 
 -- literals, terms and lists of them stay as the list grows
-literal_more : (k : ℕ) (ps qs : List (List ℕ)) → Extends ps qs → (l : Literal Cell) (m : Literal Query) → IsLiteralOf k ps l m → IsLiteralOf k qs l m
-literal_more k ps qs e l m i = record { required = i.required; query = query_more k ps qs e l.query m.query i.query }
+literal_more : (k : ℕ) (ps qs : List (List ℕ)) → Extends ps qs → (l : Literal Cell) (m : Literal Question) → IsLiteralOf k ps l m → IsLiteralOf k qs l m
+literal_more k ps qs e l m i = record { required = i.required; question = question_more k ps qs e l.question m.question i.question }
 
-pub literals_more : (k : ℕ) (ps qs : List (List ℕ)) → Extends ps qs → (t : List (Literal Cell)) (u : List (Literal Query)) → AreLiteralsOf k ps t u → AreLiteralsOf k qs t u
+pub literals_more : (k : ℕ) (ps qs : List (List ℕ)) → Extends ps qs → (t : List (Literal Cell)) (u : List (Literal Question)) → AreLiteralsOf k ps t u → AreLiteralsOf k qs t u
 literals_more k ps qs e = pointwise_more (IsLiteralOf k ps) (IsLiteralOf k qs) (literal_more k ps qs e)
 
-pub terms_more : (k : ℕ) (ps qs : List (List ℕ)) → Extends ps qs → (ts : List (List (Literal Cell))) (us : List (List (Literal Query))) → AreTermsOf k ps ts us → AreTermsOf k qs ts us
+pub terms_more : (k : ℕ) (ps qs : List (List ℕ)) → Extends ps qs → (ts : List (List (Literal Cell))) (us : List (List (Literal Question))) → AreTermsOf k ps ts us → AreTermsOf k qs ts us
 terms_more k ps qs e = pointwise_more (AreLiteralsOf k ps) (AreLiteralsOf k qs) (literals_more k ps qs e)
 
 -- what is asked of the next word
-pub word_next : (r : Bool) (child k : ℕ) (ps qs : List (List ℕ)) (old new : List (Literal Cell)) (before : List (Literal Query)) (xs ys : List (List ℕ)) (i n : ℕ) (w : List ℕ) (p : ℕ)
-    → Extends ps qs → i < length xs → w ≡ get_or xs i w → xs ≡ ys → n ≡ i + 1 → child < k → p < length qs → get_or qs p [] ≡ w → new ≡ old ++ record { required = r; query = record { child = child; pattern = p } } ∷ []
+pub word_next : (r : Bool) (child k : ℕ) (ps qs : List (List ℕ)) (old new : List (Literal Cell)) (before : List (Literal Question)) (xs ys : List (List ℕ)) (i n : ℕ) (w : List ℕ) (p : ℕ)
+    → Extends ps qs → i < length xs → w ≡ get_or xs i w → xs ≡ ys → n ≡ i + 1 → child < k → p < length qs → get_or qs p [] ≡ w → new ≡ old ++ record { required = r; question = record { child = child; pattern = p } } ∷ []
     → AreLiteralsOf k ps old (before ++ map (asks r child) (take i ys)) → AreLiteralsOf k qs new (before ++ map (asks r child) (take n ys))
 word_next r child k ps qs old new before xs ys i n w p x h e q m c g is more a =
     subst (λ z. AreLiteralsOf k qs z (before ++ map (asks r child) (take n ys))) (sym more)
     (subst (AreLiteralsOf k qs (old ++ literal ∷ [])) (sym longer)
     (pointwise_snoc (IsLiteralOf k qs) old (before ++ map (asks r child) (take i ys)) literal (asks r child w) (literals_more k ps qs x old (before ++ map (asks r child) (take i ys)) a)
-    (record { required = refl; query = record { child = c; pattern = g; query = ap (λ v. record { child = child; word = v }) is } })))
+    (record { required = refl; question = record { child = c; pattern = g; question = ap (λ v. record { child = child; word = v }) is } })))
   where
     literal : Literal Cell
-    literal = record { required = r; query = record { child = child; pattern = p } }
+    literal = record { required = r; question = record { child = child; pattern = p } }
 
     longer : before ++ map (asks r child) (take n ys) ≡ (before ++ map (asks r child) (take i ys)) ++ asks r child w ∷ []
     longer =
         ap (λ zs. before ++ map (asks r child) zs) (take_more xs ys i n w h e q m)
-        ∙ ap (λ (zs : List (Literal Query)). before ++ zs) (map-append (asks r child) (take i ys) (w ∷ []))
+        ∙ ap (λ (zs : List (Literal Question)). before ++ zs) (map-append (asks r child) (take i ys) (w ∷ []))
         ∙ sym (append_assoc before (map (asks r child) (take i ys)) (asks r child w ∷ []))
 
 -- what names ask, one by one
@@ -65,7 +65,7 @@ literals_snoc : (j : ℕ) (ns : List Name) (n : Name) → literals j (ns ++ n �
 literals_snoc j [] n = let e : j + 0 ≡ j = omega arith in append-nil (child_literals j n) ∙ ap (λ i. child_literals i n) (sym e)
 literals_snoc j (m ∷ ns) n =
     let e : suc j + length ns ≡ j + suc (length ns) = omega arith in
-    ap (λ (l : List (Literal Query)). child_literals j m ++ l) (literals_snoc (suc j) ns n ∙ ap (λ i. literals (suc j) ns ++ child_literals i n) e)
+    ap (λ (l : List (Literal Question)). child_literals j m ++ l) (literals_snoc (suc j) ns n ∙ ap (λ i. literals (suc j) ns ++ child_literals i n) e)
     ∙ sym (append_assoc (child_literals j m) (literals (suc j) ns) (child_literals (j + suc (length ns)) n))
 
 -- what the next child is asked
@@ -110,7 +110,7 @@ term_next S root k ps new xs ys i n t h e q m a =
     )) a
 
 -- a term with the root
-pub term_with : (S : System) (root π : List ℕ) (cs : List ℕ) (k : ℕ) (ps qs : List (List ℕ)) (old new : List (List (Literal Cell))) (t : List (Literal Cell)) (before : List (List (Literal Query))) → Extends ps qs → same π root ≡ true → new ≡ old ++ t ∷ []
+pub term_with : (S : System) (root π : List ℕ) (cs : List ℕ) (k : ℕ) (ps qs : List (List ℕ)) (old new : List (List (Literal Cell))) (t : List (Literal Cell)) (before : List (List (Literal Question))) → Extends ps qs → same π root ≡ true → new ≡ old ++ t ∷ []
     → AreLiteralsOf k qs t (literals 0 (names_at S cs)) → AreTermsOf k ps old before → AreTermsOf k qs new (before ++ map (literals 0) (names_of_root S root (Node π cs ∷ [])))
 term_with S root π cs k ps qs old new t before x e more i a =
     subst (λ b. AreTermsOf k qs new (before ++ map (literals 0) (cond b (names_at S cs ∷ []) []))) (sym e)

@@ -14,8 +14,8 @@ use Rattle.av_walk.specs.Sifts.{AreCellsOfTerms}
 use Rattle.av_walk.specs.Looks.{IsLook}
 use Rattle.av_walk.specs.Paths.{asked_of, IsPath, parts_of, left_of}
 use Rattle.av_walk.specs.Ends.{IsPlanned, Advances, CanAdvance}
-use Rattle.av_walk.proofs.GenericWalk.{queries_with}
-use Rattle.av_walk.proofs.Starting.{apt_queries}
+use Rattle.av_walk.proofs.GenericWalk.{questions_with}
+use Rattle.av_walk.proofs.Starting.{apt_questions}
 use Rattle.av_walk.proofs.Turning.{Finds, weights, cells_there, terms_there, can_advance, turn}
 
 -- a turn of the walk
@@ -26,8 +26,8 @@ pub record Walked (S : System) (root : List ℕ) (e : Equation) (plan : Plan) (r
 
 -- a path that goes by a plan
 module _ (S : System) (root : List ℕ) (e : Equation) (plan : Plan) (rest : Option Path) (p : Path) (w : IsPlanned S root e plan rest) (is : rest ≡ Some p) where
-  apt : Each (Apt (length root)) (queries_with (demands root e.name.avoid e.name.require) (asked_of S root e))
-  apt = apt_queries root e.name.avoid e.name.require (asked_of S root e) w.walk.avoid w.walk.require w.walk.literals
+  apt : Each (Apt (length root)) (questions_with (demands root e.name.avoid e.name.require) (asked_of S root e))
+  apt = apt_questions root e.name.avoid e.name.require (asked_of S root e) w.walk.avoid w.walk.require w.walk.literals
 
   path : IsPath (length root) plan.table plan.demands plan.terms p
   path = w.walk.path p is

@@ -4,7 +4,7 @@ use Rattle.std.proofs.lemmas.List.{reverse-append}
 use Rattle.av_name.specs.declared.constraints.Known.{Known}
 use Rattle.av_name.specs.declared.constraints.Known.TheVariants.{Open}
 use Rattle.av_split.specs.declared.cells.Cell.{Cell}
-use Rattle.av_split.specs.Split.{Demand, demands_known, next_query}
+use Rattle.av_split.specs.Split.{Demand, demands_known, next_question}
 use Rattle.av_walk.specs.declared.path.State.{State}
 use Rattle.av_walk.specs.declared.path.Turn.{Turn}
 use Rattle.av_walk.specs.declared.sifting.Sifted.{Sifted}
@@ -85,8 +85,8 @@ looks_at done f ds ts numbers s look k a i l = by look l
 
     treatment : treatment_at f ds ts ≡ settled_cell done (inside_count f (picked ts numbers)) s.next
     treatment =
-        ap (λ known. treated known (inside_count f ts) (next_of_terms f ts) (next_query f ds)) k
-        ∙ cell_of done (inside_count f ts) (next_of_terms f ts) (next_query f ds)
+        ap (λ known. treated known (inside_count f ts) (next_of_terms f ts) (next_question f ds)) k
+        ∙ cell_of done (inside_count f ts) (next_of_terms f ts) (next_question f ds)
         ∙ ap₂ (λ (n : ℕ) (o : Option Cell). settled_cell done n o) count next
 
     by : (look : Look) → Looks done (inside_count f (picked ts numbers)) s look → IsLook f ds ts look
@@ -98,7 +98,7 @@ looks_at done f ds ts numbers s look k a i l = by look l
     )
 
 -- of an open one
-pub opens : (f : Cell → Known) (ds : List (Demand Cell)) (ts : List (List (Literal Cell))) (cell : Cell) → demands_known f ds ≡ Open → next_query f ds ≡ Some cell → treatment_at f ds ts ≡ splits cell
+pub opens : (f : Cell → Known) (ds : List (Demand Cell)) (ts : List (List (Literal Cell))) (cell : Cell) → demands_known f ds ≡ Open → next_question f ds ≡ Some cell → treatment_at f ds ts ≡ splits cell
 opens f ds ts cell k n = ap₂ (λ (known : Known) (o : Option Cell). treated known (inside_count f ts) (next_of_terms f ts) o) k n
 
 -- the last item comes first from the back

@@ -16,8 +16,8 @@ use Rattle.av_sys.specs.declared.terms.Term.TheVariants.{Point, Node}
 use Rattle.av_sys.specs.declared.terms.Equation.{Equation}
 use Rattle.av_sys.specs.declared.terms.System.{System}
 use Rattle.av_split.specs.declared.cells.Cell.{Cell}
-use Rattle.av_split.specs.Split.{Demand, queries_of}
-use Rattle.av_split.specs.Boxes.{Query, Box, word_rules, demands}
+use Rattle.av_split.specs.Split.{Demand, questions_of}
+use Rattle.av_split.specs.Boxes.{Question, Box, word_rules, demands}
 use Rattle.av_split.specs.Marks.{box_of, free_mark}
 use Rattle.av_split.specs.Cells.{Pointwise, AreDemandsOf, known_at}
 use Rattle.av_split.specs.Walk.{AreRows}
@@ -28,7 +28,7 @@ use Rattle.av_walk.specs.Walk.{Literal, Leaf, walk}
 use Rattle.av_walk.specs.Leaves.{name_of_equation, names_at, names_of_root, asks, child_literals, literals, leaves_of}
 use Rattle.av_walk.specs.Numbers.{IsLiteralOf, AreLiteralsOf, AreTermsOf}
 use Rattle.av_walk.specs.Paths.{asked_of, IsAptLiteral, AreCuts, Inherits, IsPath, IsWalk, parts_left, left_of}
-use Rattle.av_walk.proofs.GenericWalk.{queries_with}
+use Rattle.av_walk.proofs.GenericWalk.{questions_with}
 use Rattle.av_walk.proofs.Numbering.{slice_In}
 
 -- what holds of all holds of each
@@ -36,16 +36,16 @@ each_all : {A : Type 0} (P : A → Type 0) (xs : List A) → All P xs → Each P
 each_all P xs a x i = let s = at_In xs x x i in subst P s.2 (All-get_or P xs s.0 x s.1 a)
 
 -- what a name asks is about words
-asks_words : (r : Bool) (i : ℕ) (ws : List (List ℕ)) → Each IsWord ws → (l : Literal Query) → In l (map (asks r i) (in_shortlex ws)) → IsWord l.query.word
-asks_words r i ws h l j = let w = In_map (asks r i) (in_shortlex ws) l j in subst (λ (m : Literal Query). IsWord m.query.word) (sym w.2) (h w.0 (shortlex_In ws w.0 w.1))
+asks_words : (r : Bool) (i : ℕ) (ws : List (List ℕ)) → Each IsWord ws → (l : Literal Question) → In l (map (asks r i) (in_shortlex ws)) → IsWord l.question.word
+asks_words r i ws h l j = let w = In_map (asks r i) (in_shortlex ws) l j in subst (λ (m : Literal Question). IsWord m.question.word) (sym w.2) (h w.0 (shortlex_In ws w.0 w.1))
 
-child_words : (i : ℕ) (n : Name) → IsMadeOfWords n → (l : Literal Query) → In l (child_literals i n) → IsWord l.query.word
+child_words : (i : ℕ) (n : Name) → IsMadeOfWords n → (l : Literal Question) → In l (child_literals i n) → IsWord l.question.word
 child_words i n h l j = elim (In_append_cases (map (asks false i) (in_shortlex n.avoid)) (map (asks true i) (in_shortlex n.require)) l j) [
   | inl k ↦ asks_words false i n.avoid (perms_words n.avoid h.avoided) l k
   | inr k ↦ asks_words true i n.require (perms_words n.require h.required) l k
 ]
 
-literal_words : (i : ℕ) (ns : List Name) → Each IsMadeOfWords ns → (l : Literal Query) → In l (literals i ns) → IsWord l.query.word
+literal_words : (i : ℕ) (ns : List Name) → Each IsMadeOfWords ns → (l : Literal Question) → In l (literals i ns) → IsWord l.question.word
 literal_words i [] h l j = absurd j
 literal_words i (n ∷ ns) h l j = elim (In_append_cases (child_literals i n) (literals (suc i) ns) l j) [
   | inl k ↦ child_words i n (h n (inl refl)) l k
@@ -83,27 +83,27 @@ partner R (x ∷ xs) (z ∷ ys) y p (inr i) = partner R xs ys y p.1 i
 
 -- the terms ask about words at children of the root
 pub apt_literals : (S : System) (root : List ℕ) (e : Equation) (ps : List (List ℕ)) (ts : List (List (Literal Cell))) → All (λ (e : Equation). IsMadeOfWords e.name) S.equations → AreTermsOf (length root) ps ts (asked_of S root e)
-    → (t : List (Literal Query)) → In t (asked_of S root e) → (l : Literal Query) → In l t → IsAptLiteral (length root) l
+    → (t : List (Literal Question)) → In t (asked_of S root e) → (l : Literal Question) → In l t → IsAptLiteral (length root) l
 apt_literals S root e ps ts named terms t i l j = (child, word)
   where
-    child : l.query.child < length root
+    child : l.question.child < length root
     child =
         let u = partner (AreLiteralsOf (length root) ps) ts (asked_of S root e) t terms i in
         let m = partner (IsLiteralOf (length root) ps) u.0 t l u.1 j in
-        subst (λ (q : Query). q.child < length root) m.1.query.query m.1.query.child
+        subst (λ (q : Question). q.child < length root) m.1.question.question m.1.question.child
 
-    word : IsWord l.query.word
+    word : IsWord l.question.word
     word =
         let ns = In_map (literals 0) (names_of_root S root e.terms) t i in
         literal_words 0 ns.0 (root_words S (each_all (λ (e : Equation). IsMadeOfWords e.name) S.equations named) root e.terms ns.0 ns.1) l (subst (In l) ns.2 j)
 
--- all queries are apt
-pub apt_queries : (π : List ℕ) (A R : List (List ℕ)) (us : List (List (Literal Query))) → Each IsWord A → Each IsWord R → ((t : List (Literal Query)) → In t us → (l : Literal Query) → In l t → IsAptLiteral (length π) l) → Each (Apt (length π)) (queries_with (demands π A R) us)
-apt_queries π A R us ga gr h q i = elim (In_append_cases (queries_of (demands π A R)) (flat_map (λ (t : List (Literal Query)). map (λ (l : Literal Query). l.query) t) us) q i) [
+-- all questions are apt
+pub apt_questions : (π : List ℕ) (A R : List (List ℕ)) (us : List (List (Literal Question))) → Each IsWord A → Each IsWord R → ((t : List (Literal Question)) → In t us → (l : Literal Question) → In l t → IsAptLiteral (length π) l) → Each (Apt (length π)) (questions_with (demands π A R) us)
+apt_questions π A R us ga gr h q i = elim (In_append_cases (questions_of (demands π A R)) (flat_map (λ (t : List (Literal Question)). map (λ (l : Literal Question). l.question) t) us) q i) [
   | inl j ↦ demands_apt π A R ga gr q j
   | inr j ↦
-      let t = In_flat_map (λ (t : List (Literal Query)). map (λ (l : Literal Query). l.query) t) us q j in
-      let l = In_map (λ (l : Literal Query). l.query) t.0 q t.2 in
+      let t = In_flat_map (λ (t : List (Literal Question)). map (λ (l : Literal Question). l.question) t) us q j in
+      let l = In_map (λ (l : Literal Question). l.question) t.0 q t.2 in
       let a = h t.0 t.1 l.0 l.1 in
       subst (Apt (length π)) (sym l.2) (record { child = a.0; word = a.1 })
 ]

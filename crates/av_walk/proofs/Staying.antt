@@ -5,11 +5,11 @@ use Rattle.av_name.specs.declared.constraints.Known.{Known}
 use Rattle.av_name.specs.declared.constraints.Known.TheVariants.{In as Inside, Out as Outside, Open}
 use Rattle.av_split.specs.declared.cells.Cell.{Cell}
 use Rattle.av_split.specs.Split.{turned, all_of, Demand, demand_known, demands_known}
-use Rattle.av_split.specs.Boxes.{Query}
+use Rattle.av_split.specs.Boxes.{Question}
 use Rattle.av_split.specs.Marks.{once}
 use Rattle.av_split.specs.Cells.{AreDemandsOf}
 use Rattle.av_split.proofs.GenericSplit.{turned_open}
-use Rattle.av_split.proofs.Cutting.{all_pass, demand_pass, turned_twice, inside_open, outside_open, open_none, once_keeps, once_other, pointwise_In, take_In, cell_query}
+use Rattle.av_split.proofs.Cutting.{all_pass, demand_pass, turned_twice, inside_open, outside_open, open_none, once_keeps, once_other, pointwise_In, take_In, cell_question}
 use Rattle.av_walk.specs.declared.path.State.{State}
 use Rattle.av_walk.specs.declared.path.State.TheVariants as states
 use Rattle.av_walk.specs.Walk.{Literal, literal_known, term_known}
@@ -28,9 +28,9 @@ module _ (r : Bool) (k : ℕ) (ps : List (List ℕ)) (f g : Cell → Known) (nex
   cell_stays cell h known n e = let t = next cell h in t.1 ∙ once_keeps r t.0 (f cell) known n e
 
   -- a demand
-  module _ (ds : List (Demand Cell)) (es : List (Demand Query)) (asked : AreDemandsOf k ps ds es) where
+  module _ (ds : List (Demand Cell)) (es : List (Demand Question)) (asked : AreDemandsOf k ps ds es) where
     numbered : (d : Demand Cell) → In d ds → (m : List Cell) → In m d.embeddings → (cell : Cell) → In cell m → cell.pattern < length ps
-    numbered d i m j cell l = (cell_query k ps ds es asked d i m j cell l).1.pattern
+    numbered d i m j cell l = (cell_question k ps ds es asked d i m j cell l).1.pattern
 
     demand_stays : (known : Known) → (known ≡ Open → ⊥) → (d : Demand Cell) → In d ds → demand_known f d ≡ known → demand_known g d ≡ known
     demand_stays known n d i e =
@@ -58,16 +58,16 @@ module _ (r : Bool) (k : ℕ) (ps : List (List ℕ)) (f g : Cell → Known) (nex
             subst (λ w. f cell ≡ turned w Outside) (kind d s) (once_other r t (f cell) (sym e ∙ subst (λ w. g cell ≡ turned w Outside) (sym (kind d s)) c))
 
     -- a term that is refuted
-    module _ (ts : List (List (Literal Cell))) (us : List (List (Literal Query))) (terms : AreTermsOf k ps ts us) where
+    module _ (ts : List (List (Literal Cell))) (us : List (List (Literal Question))) (terms : AreTermsOf k ps ts us) where
       term_stays : (t : List (Literal Cell)) → In t ts → term_known f t ≡ Outside → term_known g t ≡ Outside
       term_stays t i e =
           let u = pointwise_In (AreLiteralsOf k ps) ts us t terms i in
-          all_pass Outside (literal_known f) (literal_known g) t outside_open (λ l j c. literal_stays l (pointwise_In (IsLiteralOf k ps) t u.0 l u.1 j).1.query.pattern c) e
+          all_pass Outside (literal_known f) (literal_known g) t outside_open (λ l j c. literal_stays l (pointwise_In (IsLiteralOf k ps) t u.0 l u.1 j).1.question.pattern c) e
         where
-          literal_stays : (l : Literal Cell) → l.query.pattern < length ps → turned l.required (f l.query) ≡ Outside → turned l.required (g l.query) ≡ Outside
+          literal_stays : (l : Literal Cell) → l.question.pattern < length ps → turned l.required (f l.question) ≡ Outside → turned l.required (g l.question) ≡ Outside
           literal_stays l h c =
               ap (turned l.required)
-              (cell_stays l.query h (turned l.required Outside) (λ o. outside_open (turned_open l.required Outside o)) (sym (turned_twice l.required (f l.query)) ∙ ap (turned l.required) c))
+              (cell_stays l.question h (turned l.required Outside) (λ o. outside_open (turned_open l.required Outside o)) (sym (turned_twice l.required (f l.question)) ∙ ap (turned l.required) c))
               ∙ turned_twice l.required Outside
 
       -- what was known before a cut

@@ -9,13 +9,13 @@ use Rattle.av_name.specs.declared.constraints.Known.TheVariants.{Open}
 use Rattle.av_split.specs.declared.cells.Cell.{Cell}
 use Rattle.av_split.specs.declared.rows.Mark.{Mark}
 use Rattle.av_split.specs.Split.{Demand}
-use Rattle.av_split.specs.Boxes.{Query, Box, word_rules}
+use Rattle.av_split.specs.Boxes.{Question, Box, word_rules}
 use Rattle.av_split.specs.Marks.{once, box_of}
-use Rattle.av_split.specs.Cells.{query_at, IsQueryOf, AreDemandsOf, known_at, HaveCellsOf}
+use Rattle.av_split.specs.Cells.{question_at, IsQuestionOf, AreDemandsOf, known_at, HaveCellsOf}
 use Rattle.av_split.specs.Walk.{AreRows, CanEnter, Either}
 use Rattle.av_split.proofs.GenericSplit.{open_count}
 use Rattle.av_split.proofs.WordSplit.{Fine, Apt, word_law}
-use Rattle.av_split.proofs.Cutting.{cell_known, rows_fine, query_cell, cell_query, pointwise_In, next_box, next_rows, next_known, set_back, none, some, In_reverse, weight, weight_two, weight_some}
+use Rattle.av_split.proofs.Cutting.{cell_known, rows_fine, question_cell, cell_question, pointwise_In, next_box, next_rows, next_known, set_back, none, some, In_reverse, weight, weight_two, weight_some}
 use Rattle.av_walk.specs.declared.path.Path.{Path}
 use Rattle.av_walk.specs.declared.path.State.{State}
 use Rattle.av_walk.specs.declared.path.Turn.{Turn}
@@ -29,7 +29,7 @@ use Rattle.av_walk.specs.Sifts.{AreCellsOfTerms}
 use Rattle.av_walk.specs.Looks.{ending_of, IsLook}
 use Rattle.av_walk.specs.Paths.{treatment_at, before, IsCut, AreCuts, Inherits, IsPath, parts_left, parts_of, AreTurns, IsEntered, GoesBack}
 use Rattle.av_walk.specs.Ends.{IsEnd, Advances, CanAdvance}
-use Rattle.av_walk.proofs.GenericWalk.{queries_with, splits_asked, falls, walk_leaf_only, walk_parts}
+use Rattle.av_walk.proofs.GenericWalk.{questions_with, splits_asked, falls, walk_leaf_only, walk_parts}
 use Rattle.av_walk.proofs.Treatments.{TreatmentOf, treatment_same, same_end, same_split}
 use Rattle.av_walk.proofs.Staying.{safe_then, known_then}
 
@@ -39,39 +39,39 @@ Finds None before after = before ≡ after
 Finds (Some end) before after = (l : Leaf Box) × IsEnd end l × (before ≡ l ∷ after)
 
 -- the weights of some boxes together
-abbrev pub weights : List (Demand Query) → List (List (Literal Query)) → List Box → ℕ
+abbrev pub weights : List (Demand Question) → List (List (Literal Question)) → List Box → ℕ
 weights es us [] = 0
-weights es us (b ∷ bs) = weight (open_count (word_rules.answer b) (queries_with es us)) + weights es us bs
+weights es us (b ∷ bs) = weight (open_count (word_rules.answer b) (questions_with es us)) + weights es us bs
 
--- the demands and the terms by cells and by queries, which are of `k` children
-module _ (k : ℕ) (ps : List (List ℕ)) (ds : List (Demand Cell)) (es : List (Demand Query)) (asked : AreDemandsOf k ps ds es) (ts : List (List (Literal Cell))) (us : List (List (Literal Query))) (terms : AreTermsOf k ps ts us) (apt : Each (Apt k) (queries_with es us)) where
+-- the demands and the terms by cells and by questions, which are of `k` children
+module _ (k : ℕ) (ps : List (List ℕ)) (ds : List (Demand Cell)) (es : List (Demand Question)) (asked : AreDemandsOf k ps ds es) (ts : List (List (Literal Cell))) (us : List (List (Literal Question))) (terms : AreTermsOf k ps ts us) (apt : Each (Apt k) (questions_with es us)) where
   -- their cells are in the rows
   pub cells_there : (rows : List (List Mark)) → AreRows k ps rows → HaveCellsOf rows ds
-  cells_there rows is d j cells l cell m = let q = cell_query k ps ds es asked d j cells l cell m in query_cell k ps rows cell q.0 is q.1
+  cells_there rows is d j cells l cell m = let q = cell_question k ps ds es asked d j cells l cell m in question_cell k ps rows cell q.0 is q.1
 
   pub terms_there : (rows : List (List Mark)) → AreRows k ps rows → AreCellsOfTerms rows ts
   terms_there rows is t i l j =
       let u = pointwise_In (AreLiteralsOf k ps) ts us t terms i in
       let m = pointwise_In (IsLiteralOf k ps) t u.0 l u.1 j in
-      query_cell k ps rows l.query m.0.query is m.1.query
+      question_cell k ps rows l.question m.0.question is m.1.question
 
   -- a box with these rows
   module _ (rows : List (List Mark)) (is : AreRows k ps rows) where
-    -- what becomes of it is the same by queries
+    -- what becomes of it is the same by questions
     becomes : TreatmentOf k ps (treatment_at (known_at rows) ds ts) (treatment word_rules es us (box_of ps rows))
     becomes = treatment_same k ps (known_at rows) (word_rules.answer (box_of ps rows)) (λ cell q i. cell_known k ps rows cell q is i) ds es ts us asked terms
 
-    -- the cell that cuts it, with its query
+    -- the cell that cuts it, with its question
     record Asked (cell : Cell) : Type 0 where
-      cell_is : IsQueryOf k ps cell (query_at ps cell)
-      cuts : treatment word_rules es us (box_of ps rows) ≡ splits (query_at ps cell)
-      unknown : word_rules.answer (box_of ps rows) (query_at ps cell) ≡ Open
-      there : In (query_at ps cell) (queries_with es us)
+      cell_is : IsQuestionOf k ps cell (question_at ps cell)
+      cuts : treatment word_rules es us (box_of ps rows) ≡ splits (question_at ps cell)
+      unknown : word_rules.answer (box_of ps rows) (question_at ps cell) ≡ Open
+      there : In (question_at ps cell) (questions_with es us)
 
     asked_at : (cell : Cell) → treatment_at (known_at rows) ds ts ≡ splits cell → Asked cell
     asked_at cell e =
         let s = same_split k ps (treatment_at (known_at rows) ds ts) (treatment word_rules es us (box_of ps rows)) cell becomes e in
-        let a = splits_asked (word_rules.answer (box_of ps rows)) es us (query_at ps cell) s.1 in
+        let a = splits_asked (word_rules.answer (box_of ps rows)) es us (question_at ps cell) s.1 in
         record { cell_is = s.0; cuts = s.1; unknown = a.0; there = a.1 }
 
     can_enter : (cell : Cell) → Asked cell → CanEnter ps rows cell
@@ -83,14 +83,14 @@ module _ (k : ℕ) (ps : List (List ℕ)) (ds : List (Demand Cell)) (es : List (
 
     -- the pattern of the cell, of which nothing is known
     cell_open : (cell : Cell) → Asked cell → known_at rows cell ≡ Open
-    cell_open cell a = cell_known k ps rows cell (query_at ps cell) is a.cell_is ∙ a.unknown
+    cell_open cell a = cell_known k ps rows cell (question_at ps cell) is a.cell_is ∙ a.unknown
 
     cell_word : (cell : Cell) → Asked cell → IsWord (get_or ps cell.pattern [])
-    cell_word cell a = (apt (query_at ps cell) a.there).word
+    cell_word cell a = (apt (question_at ps cell) a.there).word
 
     -- the path to a part of the box, after some cuts, and the parts that it leaves for later
     entered : (r : Bool) (state : State) (cell : Cell) (cuts : List Turn) (q : Path) → IsCut k ps ds ts rows state cell → AreCuts k ps ds ts cuts rows → IsEntered r ps cell state rows cuts q
-        → IsPath k ps ds ts q × (parts_of ps (Some q) ≡ word_rules.settle r (box_of ps rows) (query_at ps cell) ∷ (cond r [] (word_rules.settle true (box_of ps rows) (query_at ps cell) ∷ []) ++ parts_left ps cuts rows))
+        → IsPath k ps ds ts q × (parts_of ps (Some q) ≡ word_rules.settle r (box_of ps rows) (question_at ps cell) ∷ (cond r [] (word_rules.settle true (box_of ps rows) (question_at ps cell) ∷ []) ++ parts_left ps cuts rows))
     entered r state cell cuts q c earlier x = (
       record {
         marks = next_rows r k ps rows q.rows.items x.row cell is a.cell_is.child a.cell_is.pattern (cell_word cell a) (cell_open cell a) x.settled x.rows;
@@ -105,7 +105,7 @@ module _ (k : ℕ) (ps : List (List ℕ)) (ds : List (Demand Cell)) (es : List (
       },
       ap₂ (λ (b : Box) (bs : List Box). b ∷ bs)
           (next_box r k ps rows q.rows.items x.row cell is a.cell_is.child a.cell_is.pattern (cell_word cell a) (cell_open cell a) x.settled x.rows)
-          (ap (λ l. parts_left ps l q.rows.items) x.turns ∙ ap (λ l. cond r [] (word_rules.settle true (box_of ps l) (query_at ps cell) ∷ []) ++ parts_left ps cuts l) put_back),
+          (ap (λ l. parts_left ps l q.rows.items) x.turns ∙ ap (λ l. cond r [] (word_rules.settle true (box_of ps l) (question_at ps cell) ∷ []) ++ parts_left ps cuts l) put_back),
     )
       where
         a : Asked cell
@@ -125,7 +125,7 @@ module _ (k : ℕ) (ps : List (List ℕ)) (ds : List (Demand Cell)) (es : List (
       by : (r : Bool) → (GoesBack ps turns (before t rows) next → ((q : Path) → next ≡ Some q → IsPath k ps ds ts q) × (parts_of ps next ≡ parts_left ps turns (before t rows)))
           → Either r (GoesBack ps turns (before t rows) next) ((p : Path) × (next ≡ Some p) × IsEntered true ps t.cell t.state (before t rows) turns p)
           → ((q : Path) → next ≡ Some q → IsPath k ps ds ts q)
-          × (parts_of ps next ≡ cond r [] (word_rules.settle true (box_of ps (before t rows)) (query_at ps t.cell) ∷ []) ++ parts_left ps turns (before t rows))
+          × (parts_of ps next ≡ cond r [] (word_rules.settle true (box_of ps (before t rows)) (question_at ps t.cell) ∷ []) ++ parts_left ps turns (before t rows))
       by true f g = f g
       by false f g =
           let e = entered (before t rows) c.0.marks true t.state t.cell turns g.0 c.0 c.1 g.2 in (
@@ -191,15 +191,15 @@ module _ (k : ℕ) (ps : List (List ℕ)) (ds : List (Demand Cell)) (es : List (
               h,
               ap₂ (λ (x y : List (Leaf Box)). x ++ y) (walk_leaf_only word_rules (Fine k) (Apt k) (word_law k) es us apt b (ending_of kind) t) (ap (flat_map (walk word_rules es us)) (sym r.1)),
             );
-            less = let w = ap (weights es us) r.1 in omega (arith, w, weight_some (open_count (word_rules.answer b) (queries_with es us)));
+            less = let w = ap (weights es us) r.1 in omega (arith, w, weight_some (open_count (word_rules.answer b) (questions_with es us)));
           }
 
       cut : (cell : Cell) (state : State) → IsCut k ps ds ts p.rows.items state cell → (q : Path) → next ≡ Some q → found ≡ None → IsEntered false ps cell state p.rows.items (reverse p.turns.items) q → Advanced (parts_of ps (Some p)) next found
       cut cell state c q e f x =
           let a = asked_at p.rows.items i.marks cell c.splits in
           let h = entered p.rows.items i.marks false state cell (reverse p.turns.items) q c i.cuts x in
-          let part : Bool → Box = λ r. word_rules.settle r b (query_at ps cell) in
-          let more = walk_parts word_rules (Fine k) (Apt k) (word_law k) es us apt b (query_at ps cell) fine a.cuts in
+          let part : Bool → Box = λ r. word_rules.settle r b (question_at ps cell) in
+          let more = walk_parts word_rules (Fine k) (Apt k) (word_law k) es us apt b (question_at ps cell) fine a.cuts in
           let is : parts_of ps next ≡ part false ∷ part true ∷ later = ap (parts_of ps) e ∙ h.1 in
           record {
             path = λ z s. subst (IsPath k ps ds ts) (some (sym e ∙ s)) h.0;
@@ -213,9 +213,9 @@ module _ (k : ℕ) (ps : List (List ℕ)) (ds : List (Demand Cell)) (es : List (
                 omega (
                   arith,
                   w,
-                  weight_two (open_count (word_rules.answer (part false)) (queries_with es us)) (open_count (word_rules.answer (part true)) (queries_with es us)) (open_count (word_rules.answer b) (queries_with es us))
-                      (falls word_rules (Fine k) (Apt k) (word_law k) es us apt false b (query_at ps cell) fine a.there a.unknown)
-                      (falls word_rules (Fine k) (Apt k) (word_law k) es us apt true b (query_at ps cell) fine a.there a.unknown),
+                  weight_two (open_count (word_rules.answer (part false)) (questions_with es us)) (open_count (word_rules.answer (part true)) (questions_with es us)) (open_count (word_rules.answer b) (questions_with es us))
+                      (falls word_rules (Fine k) (Apt k) (word_law k) es us apt false b (question_at ps cell) fine a.there a.unknown)
+                      (falls word_rules (Fine k) (Apt k) (word_law k) es us apt true b (question_at ps cell) fine a.there a.unknown),
                 );
           }
 

@@ -9,7 +9,7 @@ use Rattle.av_sys.specs.declared.terms.Term.TheVariants.{Point, Node}
 use Rattle.av_sys.specs.declared.terms.Equation.{Equation}
 use Rattle.av_sys.specs.declared.terms.System.{System}
 use Rattle.av_name.specs.Constraints.{free}
-use Rattle.av_split.specs.Boxes.{Query, Box, word_rules, demands}
+use Rattle.av_split.specs.Boxes.{Question, Box, word_rules, demands}
 use Rattle.av_walk.specs.Walk.{Literal, Leaf, walk}
 
 -- the name of an equation, and where there is none that of all words
@@ -28,14 +28,14 @@ names_of_root S root (Point ∷ ts) = names_of_root S root ts
 names_of_root S root (Node π cs ∷ ts) = cond (same π root) (names_at S cs ∷ names_of_root S root ts) (names_of_root S root ts)
 
 -- what a name asks of child number i, in shortlex order: to avoid its avoided words, then to contain its required ones
-abbrev pub asks : Bool → ℕ → List ℕ → Literal Query
-asks required i w = record { required = required; query = record { child = i; word = w } }
+abbrev pub asks : Bool → ℕ → List ℕ → Literal Question
+asks required i w = record { required = required; question = record { child = i; word = w } }
 
-abbrev pub child_literals : ℕ → Name → List (Literal Query)
+abbrev pub child_literals : ℕ → Name → List (Literal Question)
 child_literals i n = map (asks false i) (in_shortlex n.avoid) ++ map (asks true i) (in_shortlex n.require)
 
 -- what names ask of the children from number i on
-abbrev pub literals : ℕ → List Name → List (Literal Query)
+abbrev pub literals : ℕ → List Name → List (Literal Question)
 literals i [] = []
 literals i (n ∷ ns) = child_literals i n ++ literals (suc i) ns
 

@@ -26,7 +26,7 @@ abbrev pub cut_or : Option Cell → State → Kind → Look
 cut_or None state kind = looks.Ends kind
 cut_or (Some cell) state kind = looks.Cut cell state
 
--- where all demands are done, or else one is broken, by the number of terms inside and the first open query of a term
+-- where all demands are done, or else one is broken, by the number of terms inside and the first open question of a term
 abbrev pub settled_cell : Bool → ℕ → Option Cell → Treatment Cell
 settled_cell true n o = done_cell n o
 settled_cell false n o = broken_cell n o

@@ -9,10 +9,10 @@ use Rattle.av_name.specs.declared.constraints.Known.{Known}
 use Rattle.av_name.specs.declared.constraints.Known.TheVariants.{In as Inside, Out as Outside, Open}
 use Rattle.av_split.specs.declared.cells.Cell.{Cell}
 use Rattle.av_split.specs.declared.rows.Mark.{Mark}
-use Rattle.av_split.specs.Split.{Demand, demand_known, demands_known, next_query, all_of}
-use Rattle.av_split.specs.Boxes.{Query, Box, word_rules, demands}
+use Rattle.av_split.specs.Split.{Demand, demand_known, demands_known, next_question, all_of}
+use Rattle.av_split.specs.Boxes.{Question, Box, word_rules, demands}
 use Rattle.av_split.specs.Marks.{IsSettled, box_of}
-use Rattle.av_split.specs.Cells.{AreDemandsOf, query_at, known_at, AreSafe}
+use Rattle.av_split.specs.Cells.{AreDemandsOf, question_at, known_at, AreSafe}
 use Rattle.av_split.specs.Walk.{AreRows, Either}
 use Rattle.av_walk.specs.declared.path.Path.{Path}
 use Rattle.av_walk.specs.declared.path.State.{State}
@@ -25,7 +25,7 @@ use Rattle.av_walk.specs.Sifts.{picked, AreAlive}
 
 -- what becomes of a box, by what is known of cells
 abbrev pub treatment_at : (Cell → Known) → List (Demand Cell) → List (List (Literal Cell)) → Treatment Cell
-treatment_at f ds ts = treated (demands_known f ds) (inside_count f ts) (next_of_terms f ts) (next_query f ds)
+treatment_at f ds ts = treated (demands_known f ds) (inside_count f ts) (next_of_terms f ts) (next_question f ds)
 
 -- all demands are done, or one is broken
 abbrev pub settled : Bool → Known
@@ -77,7 +77,7 @@ pub record IsPath (k : ℕ) (ps : List (List ℕ)) (ds : List (Demand Cell)) (ts
 -- the parts that a path leaves for later, from its last cut on
 abbrev pub parts_left : List (List ℕ) → List Turn → List (List Mark) → List Box
 parts_left ps [] rows = []
-parts_left ps (t ∷ turns) rows = cond t.required [] (word_rules.settle true (box_of ps (before t rows)) (query_at ps t.cell) ∷ []) ++ parts_left ps turns (before t rows)
+parts_left ps (t ∷ turns) rows = cond t.required [] (word_rules.settle true (box_of ps (before t rows)) (question_at ps t.cell) ∷ []) ++ parts_left ps turns (before t rows)
 
 -- the box that a path leads to, and the parts that it leaves for later
 abbrev pub parts_of : List (List ℕ) → Option Path → List Box
@@ -85,22 +85,22 @@ parts_of ps None = []
 parts_of ps (Some p) = box_of ps p.rows.items ∷ parts_left ps (reverse p.turns.items) p.rows.items
 
 -- the leaves that they give
-abbrev pub left_of : List (Demand Query) → List (List (Literal Query)) → List (List ℕ) → Option Path → List (Leaf Box)
+abbrev pub left_of : List (Demand Question) → List (List (Literal Question)) → List (List ℕ) → Option Path → List (Leaf Box)
 left_of ds ts ps p = flat_map (walk word_rules ds ts) (parts_of ps p)
 
 -- what the terms of an equation ask that have a root
-abbrev pub asked_of : System → List ℕ → Equation → List (List (Literal Query))
+abbrev pub asked_of : System → List ℕ → Equation → List (List (Literal Question))
 asked_of S root e = map (literals 0) (names_of_root S root e.terms)
 
 -- the literal asks about a word at one of `k` children
-abbrev pub IsAptLiteral : ℕ → Literal Query → Type 0
-IsAptLiteral k l = (l.query.child < k) × IsWord l.query.word
+abbrev pub IsAptLiteral : ℕ → Literal Question → Type 0
+IsAptLiteral k l = (l.question.child < k) × IsWord l.question.word
 
 -- the path, unless none is left, is of a root, a name and terms, whose demands and literals have these cells
-pub record IsWalk (π : List ℕ) (A R : List (List ℕ)) (asked : List (List (Literal Query))) (ps : List (List ℕ)) (ds : List (Demand Cell)) (ts : List (List (Literal Cell))) (p : Option Path) : Type 0 where
+pub record IsWalk (π : List ℕ) (A R : List (List ℕ)) (asked : List (List (Literal Question))) (ps : List (List ℕ)) (ds : List (Demand Cell)) (ts : List (List (Literal Cell))) (p : Option Path) : Type 0 where
   pub avoid : (w : List ℕ) → In w A → IsWord w
   pub require : (w : List ℕ) → In w R → IsWord w
-  pub literals : (t : List (Literal Query)) → In t asked → (l : Literal Query) → In l t → IsAptLiteral (length π) l
+  pub literals : (t : List (Literal Question)) → In t asked → (l : Literal Question) → In l t → IsAptLiteral (length π) l
   pub cells : AreDemandsOf (length π) ps ds (demands π A R)
   pub terms : AreTermsOf (length π) ps ts asked
   pub path : (q : Path) → p ≡ Some q → IsPath (length π) ps ds ts q

@@ -13,11 +13,11 @@ use Rattle.av_walk.specs.Walk.{Literal, term_known, inside_count, next_of_terms}
 
 -- the cell of a literal
 abbrev pub literal_cell : Literal Cell → Option Cell
-literal_cell l = Some l.query
+literal_cell l = Some l.question
 
 -- the cells of a term are of the rows
 abbrev pub AreCellsOfTerm : List (List Mark) → List (Literal Cell) → Type 0
-AreCellsOfTerm rows t = (l : Literal Cell) → In l t → IsCellOf rows l.query
+AreCellsOfTerm rows t = (l : Literal Cell) → In l t → IsCellOf rows l.question
 
 -- those of each term are
 abbrev pub AreCellsOfTerms : List (List Mark) → List (List (Literal Cell)) → Type 0

@@ -1,26 +1,26 @@
 -- The walk over the cells of a root: a cell is split until the demands of a name and the terms of its equation are settled
--- in it. For any kind of box and query.
+-- in it. For any kind of box and question.
 use Rattle.std.specs.Prelude.{ℕ, zero, suc, ◌+◌, List, [], ◌∷◌, ◌++◌, Bool, false, true, Option, Some, None, length, sum_by}
 use Rattle.av_name.specs.declared.constraints.Known.{Known}
 use Rattle.av_name.specs.declared.constraints.Known.TheVariants.{In as Inside, Out as Outside, Open}
-use Rattle.av_split.specs.Split.{turned, all_of, Demand, demands_known, first_open, next_query, Rules, queries_of}
+use Rattle.av_split.specs.Split.{turned, all_of, Demand, demands_known, first_open, next_question, Rules, questions_of}
 
--- what a term asks of a query: that it holds, or that it doesn't
+-- what a term asks of a question: that it holds, or that it doesn't
 pub record Literal (Q : Type 0) : Type 0 where
   pub required : Bool
-  pub query : Q
+  pub question : Q
 
 -- what is known of it
 abbrev pub literal_known : {Q : Type 0} → (Q → Known) → Literal Q → Known
-literal_known f l = turned l.required (f l.query)
+literal_known f l = turned l.required (f l.question)
 
 -- of a term, the list of all that it asks: refuted (`Outside`), inside, or open
 abbrev pub term_known : {Q : Type 0} → (Q → Known) → List (Literal Q) → Known
 term_known f t = all_of (literal_known f) t
 
--- the first open query of the first open term
+-- the first open question of the first open term
 abbrev pub next_of_terms : {Q : Type 0} → (Q → Known) → List (List (Literal Q)) → Option Q
-next_of_terms {Q} f ts = first_open (term_known f) (λ (t : List (Literal Q)). first_open (literal_known f) (λ (l : Literal Q). Some l.query) t) ts
+next_of_terms {Q} f ts = first_open (term_known f) (λ (t : List (Literal Q)). first_open (literal_known f) (λ (l : Literal Q). Some l.question) t) ts
 
 -- one more where it is inside
 abbrev pub one_more : Known → ℕ → ℕ
@@ -44,10 +44,10 @@ pub data Ending : Type 0 where
 -- what becomes of a cell
 pub data Treatment (Q : Type 0) : Type 0 where
   ends : (ending : Ending) → Treatment Q
-  splits : (query : Q) → Treatment Q
+  splits : (question : Q) → Treatment Q
   stuck : Treatment Q
 
--- where a demand is broken, by the number of terms inside and the first open query of a term
+-- where a demand is broken, by the number of terms inside and the first open question of a term
 abbrev pub broken_cell : {Q : Type 0} → ℕ → Option Q → Treatment Q
 broken_cell zero None = ends good
 broken_cell zero (Some q) = splits q
@@ -61,7 +61,7 @@ done_cell (suc zero) None = ends good
 done_cell (suc zero) (Some q) = splits q
 done_cell (suc (suc k)) o = ends twice
 
--- where neither is, by the next query of the demands
+-- where neither is, by the next question of the demands
 abbrev pub open_cell : {Q : Type 0} → Option Q → Treatment Q
 open_cell None = stuck
 open_cell (Some q) = splits q
@@ -74,7 +74,7 @@ treated Open k o n = open_cell n
 
 -- what becomes of a box
 abbrev pub treatment : {B Q : Type 0} → Rules B Q → List (Demand Q) → List (List (Literal Q)) → B → Treatment Q
-treatment r ds ts b = treated (demands_known (r.answer b) ds) (inside_count (r.answer b) ts) (next_of_terms (r.answer b) ts) (next_query (r.answer b) ds)
+treatment r ds ts b = treated (demands_known (r.answer b) ds) (inside_count (r.answer b) ts) (next_of_terms (r.answer b) ts) (next_question (r.answer b) ds)
 
 -- a cell where the walk ends
 pub record Leaf (B : Type 0) : Type 0 where
@@ -87,14 +87,14 @@ leaves_by (ends e) b more = record { cell = b; ending = e } ∷ []
 leaves_by (splits q) b more = more q
 leaves_by stuck b more = []
 
--- the leaves of a walk from a box, by as many queries at most: those that avoid the query first
+-- the leaves of a walk from a box, by as many questions at most: those that avoid the question first
 abbrev pub walk_by : {B Q : Type 0} → Rules B Q → List (Demand Q) → List (List (Literal Q)) → ℕ → B → List (Leaf B)
 walk_by r ds ts zero b = leaves_by (treatment r ds ts b) b (λ q. [])
 walk_by r ds ts (suc d) b = leaves_by (treatment r ds ts b) b (λ q. walk_by r ds ts d (r.settle false b q) ++ walk_by r ds ts d (r.settle true b q))
 
--- as many queries as the demands and the terms have suffice
-abbrev pub walk_queries : {Q : Type 0} → List (Demand Q) → List (List (Literal Q)) → ℕ
-walk_queries {Q} ds ts = length (queries_of ds) + sum_by (λ (t : List (Literal Q)). length t) ts
+-- as many questions as the demands and the terms have suffice
+abbrev pub walk_questions : {Q : Type 0} → List (Demand Q) → List (List (Literal Q)) → ℕ
+walk_questions {Q} ds ts = length (questions_of ds) + sum_by (λ (t : List (Literal Q)). length t) ts
 
 abbrev pub walk : {B Q : Type 0} → Rules B Q → List (Demand Q) → List (List (Literal Q)) → B → List (Leaf B)
-walk r ds ts b = walk_by r ds ts (walk_queries ds ts) b
+walk r ds ts b = walk_by r ds ts (walk_questions ds ts) b

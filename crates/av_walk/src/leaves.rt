@@ -85,7 +85,7 @@ impl<'a> Leaves<'a> {
     /// equation's name have at most 12, and each term of the equation is one of the system.
     ///
     /// The walk begins with the box in which nothing is avoided or required. Where neither a demand of the name is broken nor
-    /// all are done, the cell is split as by `av_split::split`. Where they are settled, it is split by the first open query of
+    /// all are done, the cell is split as by `av_split::split`. Where they are settled, it is split by the first open question of
     /// the first open term, unless that can change nothing: two terms have all blocks there, or a demand is broken and one has.
     pub fn new(
         alloc: Global,
@@ -193,7 +193,7 @@ fn end_of(alloc: Global, kind: Kind, table: &Table, rows: &[Row]) -> Result<Cell
     }
 }
 
-// A cell where the walk ends is given, and another one is cut: the part in which the pattern of its query is avoided comes
+// A cell where the walk ends is given, and another one is cut: the part in which the pattern of its question is avoided comes
 // before that in which it is required.
 fn advance(
     alloc: Global,

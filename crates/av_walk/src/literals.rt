@@ -4,7 +4,7 @@ ghost use Rattle.av_perm.specs.Class.{in_shortlex};
 ghost use Rattle.av_perm.specs.Members.{In};
 ghost use Rattle.av_sys.specs.Terms.{IsTermOf};
 ghost use Rattle.av_sys.specs.declared.terms.Term.{Term};
-ghost use Rattle.av_split.specs.Boxes.{Query};
+ghost use Rattle.av_split.specs.Boxes.{Question};
 ghost use Rattle.av_split.specs.Cells.{Extends};
 ghost use Rattle.av_walk.specs.Walk.{Literal};
 ghost use Rattle.av_walk.specs.Leaves.{asks, child_literals, literals, names_at, names_of_root};
@@ -57,7 +57,7 @@ fn push_words(
     term: &mut CellTerm,
 ) -> Result<(), Memory>
     ensures grows { OnOk result (Extends patterns.old patterns.new) }
-    ensures literals { OnOk result ((k : ℕ) (before : List (Literal Query)) → child < k → AreLiteralsOf k patterns.old term.old before → AreLiteralsOf k patterns.new term.new (before ++ map (asks required child) words.now)) }
+    ensures literals { OnOk result ((k : ℕ) (before : List (Literal Question)) → child < k → AreLiteralsOf k patterns.old term.old before → AreLiteralsOf k patterns.new term.new (before ++ map (asks required child) words.now)) }
 {
     for word in words.as_slice() {
         let pattern = patterns.number(word.copy())?;
@@ -76,7 +76,7 @@ fn push_in_order(
     term: &mut CellTerm,
 ) -> Result<(), Memory>
     ensures grows { OnOk result (Extends patterns.old patterns.new) }
-    ensures literals { OnOk result ((k : ℕ) (before : List (Literal Query)) → child < k → AreLiteralsOf k patterns.old term.old before → AreLiteralsOf k patterns.new term.new (before ++ map (asks required child) (in_shortlex words.now))) }
+    ensures literals { OnOk result ((k : ℕ) (before : List (Literal Question)) → child < k → AreLiteralsOf k patterns.old term.old before → AreLiteralsOf k patterns.new term.new (before ++ map (asks required child) (in_shortlex words.now))) }
 {
     if is_ascending(words) {
         push_words(child, required, words, patterns, term)
@@ -95,7 +95,7 @@ fn push_name(
     term: &mut CellTerm,
 ) -> Result<(), Memory>
     ensures grows { OnOk result (Extends patterns.old patterns.new) }
-    ensures literals { OnOk result ((k : ℕ) (before : List (Literal Query)) → child < k → AreLiteralsOf k patterns.old term.old before → AreLiteralsOf k patterns.new term.new (before ++ child_literals child name.now)) }
+    ensures literals { OnOk result ((k : ℕ) (before : List (Literal Question)) → child < k → AreLiteralsOf k patterns.old term.old before → AreLiteralsOf k patterns.new term.new (before ++ child_literals child name.now)) }
 {
     push_in_order(alloc, child, false, &name.avoid, patterns, term)?;
     push_in_order(alloc, child, true, &name.require, patterns, term)
@@ -131,7 +131,7 @@ fn push_term(
 ) -> Result<(), Memory>
     requires { IsTermOf (length system.now.equations) term.now }
     ensures grows { OnOk result (Extends patterns.old patterns.new) }
-    ensures terms { OnOk result ((before : List (List (Literal Query))) → AreTermsOf (length root.now) patterns.old terms.old before → AreTermsOf (length root.now) patterns.new terms.new (before ++ map (literals 0) (names_of_root system.now root.now (term.now ∷ [])))) }
+    ensures terms { OnOk result ((before : List (List (Literal Question))) → AreTermsOf (length root.now) patterns.old terms.old before → AreTermsOf (length root.now) patterns.new terms.new (before ++ map (literals 0) (names_of_root system.now root.now (term.now ∷ [])))) }
 {
     match term {
         Term::Point => Ok(()),

@@ -38,7 +38,7 @@ pub enum Look {
     Cut { cell: Cell, state: State },
 }
 
-// The cut by the first open query of the terms, or the end where there is none.
+// The cut by the first open question of the terms, or the end where there is none.
 fn cut_or(next: Option<Cell>, state: State, kind: Kind) -> Look
     ensures { result ≡ cut_or next state kind }
 {

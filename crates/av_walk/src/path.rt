@@ -18,7 +18,7 @@ pub enum State {
     Settled { done: bool, live: Vec<usize> },
 }
 
-// A box that was cut by the query of a cell, and which of its parts is on the path.
+// A box that was cut by the question of a cell, and which of its parts is on the path.
 #[derive(Drop)]
 pub struct Turn {
     pub cell: Cell,

@@ -50,7 +50,7 @@ fn term_step(cell: &SplitBox, system: &System, children: &Children) -> Step {
     step
 }
 
-// How many terms are inside, and the first open query.
+// How many terms are inside, and the first open question.
 #[derive(Drop)]
 struct Counted {
     inside: usize,
@@ -82,7 +82,7 @@ fn count_terms(cell: &SplitBox, system: &System, equation: &Equation, root: &Per
     Counted { inside, next }
 }
 
-// What becomes of a cell: a letter for how it ends, or the query that splits it, with its child from 0 on.
+// What becomes of a cell: a letter for how it ends, or the question that splits it, with its child from 0 on.
 #[derive(Drop)]
 enum Treated {
     Ends(u8),

@@ -1,4 +1,4 @@
-// The terms of a root in a box: how many are inside, which may still have blocks there, and the first open query.
+// The terms of a root in a box: how many are inside, which may still have blocks there, and the first open question.
 ghost use Rattle.std.specs.Prelude.{◌≡◌, ◌<◌, ◌≤◌, ◌+◌, ◌++◌, [], ◌∷◌, ℕ, All, min, length, get_or, Some, IfOk, OnOk};
 ghost use Rattle.av_name.specs.declared.constraints.Known.{Known};
 ghost use Rattle.av_split.specs.Split.{turned, first_open};
@@ -44,7 +44,7 @@ fn term_step(rows: &[Row], term: &CellTerm) -> Step
     step_or(found, Step::Holds)
 }
 
-// Of some terms: how many are inside, up to two, the first open query of the first open one, and the numbers of those that
+// Of some terms: how many are inside, up to two, the first open question of the first open one, and the numbers of those that
 // aren't refuted.
 #[derive(Drop)]
 pub struct Sifted {

@@ -19,13 +19,13 @@ impl Model for CellLiteral {
 
     ghost Value = { Literal Cell };
 
-    ghost view = { λ l. record { required = l.required; query = l.cell } };
+    ghost view = { λ l. record { required = l.required; question = l.cell } };
 }
 
 impl CellLiteral {
     // What is asked of a cell.
     pub fn of(required: bool, cell: Cell) -> CellLiteral
-        ensures { result ≡ record { required = required; query = cell } }
+        ensures { result ≡ record { required = required; question = cell } }
     {
         CellLiteral { required, cell }
     }
@@ -39,7 +39,7 @@ impl CellLiteral {
 
     // The cell.
     pub fn cell(&self) -> Cell
-        ensures { result ≡ self.now.query }
+        ensures { result ≡ self.now.question }
     {
         self.cell
     }
