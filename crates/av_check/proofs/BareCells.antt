@@ -21,7 +21,7 @@ use Rattle.av_embed.proofs.EmbeddingList.{embedding_to}
 use Rattle.av_sys.specs.declared.names.Sign.{Sign}
 use Rattle.av_sys.specs.declared.names.Name.{Name}
 use Rattle.av_name.specs.declared.constraints.Known.{Known}
-use Rattle.av_name.specs.declared.constraints.Known.TheVariants.{In as Inside}
+use Rattle.av_name.specs.declared.constraints.Known.TheVariants.{Inside}
 use Rattle.av_name.specs.Constraints.{free}
 use Rattle.av_name.proofs.Answered.{outside_is}
 use Rattle.av_split.specs.Split.{Demand, all_of, some_of, demand_known, demands_known, questions_of}

@@ -3,7 +3,7 @@ use Rattle.std.proofs.Common.{◌≡◌, ℕ, zero, suc, ◌≤◌, ◌⊎◌, i
 use Rattle.av_perm.specs.Members.{In}
 use Rattle.av_perm.proofs.Membership.{Each, SomeIn}
 use Rattle.av_name.specs.declared.constraints.Known.{Known}
-use Rattle.av_name.specs.declared.constraints.Known.TheVariants.{In as Inside, Out as Outside, Open}
+use Rattle.av_name.specs.declared.constraints.Known.TheVariants.{Inside, Outside, Open}
 use Rattle.av_split.specs.Split.{both, all_of, Demand, demands_known, at_open, first_open, next_question}
 use Rattle.av_split.proofs.GenericSplit.{Apart}
 use Rattle.av_walk.specs.Walk.{Literal, literal_known, term_known, next_of_terms, one_more, inside_count, Ending, good, bare, twice, extra, Treatment, ends, splits, stuck, broken_cell, done_cell, open_cell, treated}

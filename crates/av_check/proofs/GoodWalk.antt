@@ -7,7 +7,7 @@ use Rattle.std.proofs.lemmas.List.Elements.{filter-append}
 use Rattle.av_perm.specs.Members.{In}
 use Rattle.av_perm.proofs.Membership.{Each, In_one, In_append_cases, append_left, append_right, In_map, In_filter}
 use Rattle.av_name.specs.declared.constraints.Known.{Known}
-use Rattle.av_name.specs.declared.constraints.Known.TheVariants.{In as Inside, Out as Outside, Open}
+use Rattle.av_name.specs.declared.constraints.Known.TheVariants.{Inside, Outside, Open}
 use Rattle.av_split.specs.Split.{Demand, demands_known, at_open, first_open, next_question, Rules, questions_of, boxes_by}
 use Rattle.av_split.proofs.GenericSplit.{Lawful, Asks, asks, known_cases, boxes_induct, boxes_outside, boxes_inside, boxes_more}
 use Rattle.av_walk.specs.Walk.{Literal, literal_known, term_known, next_of_terms, one_more, inside_count, Ending, good, bare, ends, splits, treated, treatment, Leaf, leaves_by, walk_by}

@@ -10,7 +10,7 @@ use Rattle.av_sys.specs.declared.terms.Equation.{Equation}
 use Rattle.av_sys.specs.declared.terms.System.{System}
 use Rattle.av_sys.specs.Names.{Meets}
 use Rattle.av_sys.specs.Exact.{MeansOf}
-use Rattle.av_name.specs.declared.constraints.Known.TheVariants.{In as Inside, Out as Outside}
+use Rattle.av_name.specs.declared.constraints.Known.TheVariants.{Inside, Outside}
 use Rattle.av_split.specs.Boxes.{Question, Box, word_rules}
 use Rattle.av_split.proofs.GenericSplit.{MetIf, turned_says, each_inside, one_outside}
 use Rattle.av_split.proofs.WordSplit.{Fine, Apt, Lies, Holds, word_meant}

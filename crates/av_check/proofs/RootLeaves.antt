@@ -8,7 +8,7 @@ use Rattle.av_perm.specs.Relations.{IsWord, AreBlocks, inflate}
 use Rattle.av_perm.proofs.Membership.{Each, SomeIn, In_append_cases, In_map, map_In, In_flat_map}
 use Rattle.av_sys.specs.declared.names.Name.{Name}
 use Rattle.av_sys.specs.Names.{Meets}
-use Rattle.av_name.specs.declared.constraints.Known.TheVariants.{In as Inside}
+use Rattle.av_name.specs.declared.constraints.Known.TheVariants.{Inside}
 use Rattle.av_name.specs.Constraints.{free}
 use Rattle.av_split.specs.Split.{Demand, demands_known, questions_of}
 use Rattle.av_split.specs.Boxes.{Question, Box, word_rules, demands}

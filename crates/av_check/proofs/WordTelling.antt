@@ -11,7 +11,7 @@ use Rattle.av_sys.specs.declared.names.Sign.{Sign}
 use Rattle.av_sys.specs.declared.names.Sign.TheVariants.{C}
 use Rattle.av_sys.specs.declared.names.Constraint.{Constraint}
 use Rattle.av_name.specs.declared.constraints.Known.{Known}
-use Rattle.av_name.specs.declared.constraints.Known.TheVariants.{In as Inside, Out as Outside, Open}
+use Rattle.av_name.specs.declared.constraints.Known.TheVariants.{Inside, Outside, Open}
 use Rattle.av_name.specs.Constraints.{free, answer}
 use Rattle.av_name.proofs.Answered.{inside_is, outside_is, open_is}
 use Rattle.av_name.proofs.Growth.{IsFit, avoid_has, require_has}

@@ -10,7 +10,7 @@ use Rattle.av_perm.proofs.Occurrences.{contains_from, contains_to}
 use Rattle.av_perm.proofs.Containment.{contains_one, contains_trans}
 use Rattle.av_sys.specs.declared.names.Constraint.{Constraint}
 use Rattle.av_sys.specs.Names.{Meets}
-use Rattle.av_name.specs.declared.constraints.Known.TheVariants.{In as Inside, Out, Open}
+use Rattle.av_name.specs.declared.constraints.Known.TheVariants.{Inside, Outside, Open}
 use Rattle.av_name.specs.Constraints.{free, is_required, is_avoided, known_by, answer, IsClean}
 use Rattle.av_name.specs.Laws.{IsRequired, IsAvoided, AnswerLaw, FreeLaw}
 
@@ -48,12 +48,12 @@ inside_by : (x y : Bool) → x ≡ true → known_by x y ≡ Inside
 inside_by true y e = refl
 inside_by false y e = absurd (cc)
 
-by_outside : (x y : Bool) → known_by x y ≡ Out → (x ≡ true → ⊥) × (y ≡ true)
+by_outside : (x y : Bool) → known_by x y ≡ Outside → (x ≡ true → ⊥) × (y ≡ true)
 by_outside true y e = absurd (cc)
 by_outside false true e = (λ h. cc, refl)
 by_outside false false e = absurd (cc)
 
-outside_by : (x y : Bool) → (x ≡ true → ⊥) → y ≡ true → known_by x y ≡ Out
+outside_by : (x y : Bool) → (x ≡ true → ⊥) → y ≡ true → known_by x y ≡ Outside
 outside_by true y h e = absurd (h refl)
 outside_by false true h e = refl
 outside_by false false h e = absurd (cc)
@@ -63,7 +63,7 @@ by_open true y e = absurd (cc)
 by_open false true e = absurd (cc)
 by_open false false e = (λ h. cc, λ h. cc)
 
--- `In` comes exactly for what is required
+-- `Inside` comes exactly for what is required
 pub inside_is : (c : Constraint) (p : List ℕ) → (answer c p ≡ Inside) ↔ IsRequired c p
 unfolding answer
 inside_is c p = (
@@ -71,8 +71,8 @@ inside_is c p = (
   λ r. inside_by (is_required c p) (is_avoided c p) (required_to c p r),
 )
 
--- `Out` comes exactly for what has an avoided word, and is not required
-pub outside_is : (c : Constraint) (p : List ℕ) → (answer c p ≡ Out) ↔ ((IsRequired c p → ⊥) × HasAvoided c p)
+-- `Outside` comes exactly for what has an avoided word, and is not required
+pub outside_is : (c : Constraint) (p : List ℕ) → (answer c p ≡ Outside) ↔ ((IsRequired c p → ⊥) × HasAvoided c p)
 unfolding answer
 outside_is c p = (
   λ e. let b = by_outside (is_required c p) (is_avoided c p) e in (λ r. b.0 (required_to c p r), avoided_from c p b.1),
@@ -93,7 +93,7 @@ inside_says c p σ n m e = into ((inside_is c p).0 e)
     into (inr s) = contains_trans σ s.0 p (m.contains s.0 s.1) s.2
 
 -- and no word of it what has an avoided word
-pub outside_says : (c : Constraint) (p σ : List ℕ) → Meets c.avoid c.require σ → answer c p ≡ Out → Avoids σ p
+pub outside_says : (c : Constraint) (p σ : List ℕ) → Meets c.avoid c.require σ → answer c p ≡ Outside → Avoids σ p
 outside_says c p σ m e k = let h = ((outside_is c p).0 e).1 in m.avoids h.0 h.1 (contains_trans σ p h.0 k h.2)
 
 -- where no required word has an avoided word, neither has what is required, but for the word 1

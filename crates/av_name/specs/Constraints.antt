@@ -7,7 +7,7 @@ use Rattle.av_perm.specs.Class.{minimal, maximal}
 use Rattle.av_perm.specs.Relations.{Avoids}
 use Rattle.av_sys.specs.declared.names.Constraint.{Constraint}
 use Rattle.av_name.specs.declared.constraints.Known.{Known}
-use Rattle.av_name.specs.declared.constraints.Known.TheVariants.{In as Inside, Out, Open}
+use Rattle.av_name.specs.declared.constraints.Known.TheVariants.{Inside, Outside, Open}
 
 -- nothing avoided, nothing required
 abbrev pub free : Constraint
@@ -21,10 +21,10 @@ is_required c p = eqb (length p) 1 || list_any (λ r. contains r p) c.require
 abbrev pub is_avoided : Constraint → List ℕ → Bool
 is_avoided c p = list_any (λ a. contains p a) c.avoid
 
--- `In` where the first holds, else `Out` where the second does, and `Open` otherwise
+-- `Inside` where the first holds, else `Outside` where the second does, and `Open` otherwise
 abbrev pub known_by : Bool → Bool → Known
 known_by true b = Inside
-known_by false true = Out
+known_by false true = Outside
 known_by false false = Open
 
 -- what is known of the pattern in the region of the constraint
@@ -45,7 +45,7 @@ IsClean c = (r a : List ℕ) → In r c.require → In a c.avoid → Avoids r a
 
 -- what becomes of what was known of a word when the pattern is avoided, by whether the word contains it
 abbrev pub once_avoided : Bool → Known → Known
-once_avoided true Open = Out
+once_avoided true Open = Outside
 once_avoided true k = k
 once_avoided false k = k
 

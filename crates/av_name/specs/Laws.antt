@@ -5,7 +5,7 @@ use Rattle.av_perm.specs.Class.{minimal, maximal}
 use Rattle.av_perm.specs.Relations.{IsWord, AreWords, Contains, Avoids}
 use Rattle.av_sys.specs.declared.names.Constraint.{Constraint}
 use Rattle.av_sys.specs.Names.{InRegion}
-use Rattle.av_name.specs.declared.constraints.Known.TheVariants.{In as Inside, Out, Open}
+use Rattle.av_name.specs.declared.constraints.Known.TheVariants.{Inside, Outside, Open}
 use Rattle.av_name.specs.Constraints.{free, answer, add_avoid, add_require, IsClean}
 
 -- the pattern is the word 1, or some required word contains it
@@ -19,9 +19,9 @@ IsAvoided c p = (2 ≤ length p) × ((a : List ℕ) × In a c.avoid × Contains 
 -- when each answer of a constraint to a pattern comes, and what it says of the region
 pub record Answers (c : Constraint) (p : List ℕ) : Type 0 where
   pub inside : (answer c p ≡ Inside) ↔ IsRequired c p
-  pub outside : IsClean c → (answer c p ≡ Out) ↔ IsAvoided c p
+  pub outside : IsClean c → (answer c p ≡ Outside) ↔ IsAvoided c p
   pub inside_says : answer c p ≡ Inside → (σ : List ℕ) → InRegion c σ → Contains σ p
-  pub outside_says : answer c p ≡ Out → (σ : List ℕ) → InRegion c σ → Avoids σ p
+  pub outside_says : answer c p ≡ Outside → (σ : List ℕ) → InRegion c σ → Avoids σ p
 
 -- so of every constraint and word
 abbrev pub AnswerLaw : Type 0

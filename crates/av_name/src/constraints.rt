@@ -13,9 +13,9 @@ use std::alloc::Global;
 #[derive(Clone, Copy, Debug, PartialEq, Eq)]
 pub enum Known {
     /// It is true of each word.
-    In,
+    Inside,
     /// It is true of none.
-    Out,
+    Outside,
     /// Neither is known.
     Open,
 }
@@ -30,17 +30,17 @@ pub fn free(alloc: Global) -> Constraint
     }
 }
 
-/// Whether the words of the constraint's region contain the pattern. `In` exactly where it is the word 1 or some required
-/// word contains it. Else `Out` exactly where it contains some avoided word. Where no required word contains an avoided
+/// Whether the words of the constraint's region contain the pattern. `Inside` exactly where it is the word 1 or some required
+/// word contains it. Else `Outside` exactly where it contains some avoided word. Where no required word contains an avoided
 /// one, these are the patterns of at least two entries that contain an avoided word.
 #[tactic(auto, unfolding(crate::specs::Constraints::answer))]
 pub fn answer(c: &Constraint, p: &Perm) -> Known
     ensures { result ≡ answer c.now p.now }
 {
     if is_required(c, p) {
-        Known::In
+        Known::Inside
     } else if is_avoided(c, p) {
-        Known::Out
+        Known::Outside
     } else {
         Known::Open
     }

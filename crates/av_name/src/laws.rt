@@ -1,9 +1,9 @@
 // The laws of constraints.
 ghost use Rattle.av_name.specs.Laws.{AnswerLaw, FreeLaw, GrowthLaw};
 
-/// What is answered of a pattern is true of each word of the region: `In` says that each contains it, and `Out` that none
-/// does. `In` comes exactly for the word 1 and for what a required word contains. Where no required word contains an
-/// avoided one, `Out` comes exactly for a pattern of at least two entries that contains an avoided word.
+/// What is answered of a pattern is true of each word of the region: `Inside` says that each contains it, and `Outside` that none
+/// does. `Inside` comes exactly for the word 1 and for what a required word contains. Where no required word contains an
+/// avoided one, `Outside` comes exactly for a pattern of at least two entries that contains an avoided word.
 pub fn answer_law()
     ensures { AnswerLaw }
 {}

@@ -23,7 +23,7 @@ fn nothing_is_known_at_first(rt: HostRuntime) {
     let all = free(rt.alloc());
     assert_eq!(rt; all.avoid.len(), 0);
     assert_eq!(rt; all.require.len(), 0);
-    assert!(rt; answer(&all, &Perm::one()) == Known::In);
+    assert!(rt; answer(&all, &Perm::one()) == Known::Inside);
     assert!(rt; answer(&all, &word(&[2, 1])) == Known::Open);
 }
 
@@ -33,8 +33,8 @@ fn answers_of_a_constraint(rt: HostRuntime) -> Result<(), Memory> {
         avoid: words(rt.alloc(), &[&[2, 1, 4, 3]])?,
         require: words(rt.alloc(), &[&[2, 1]])?,
     };
-    assert!(rt; answer(&c, &word(&[2, 1])) == Known::In);
-    assert!(rt; answer(&c, &word(&[3, 2, 5, 4, 1])) == Known::Out);
+    assert!(rt; answer(&c, &word(&[2, 1])) == Known::Inside);
+    assert!(rt; answer(&c, &word(&[3, 2, 5, 4, 1])) == Known::Outside);
     assert!(rt; answer(&c, &word(&[1, 2])) == Known::Open);
     Ok(())
 }

@@ -4,7 +4,7 @@ use Rattle.std.proofs.lemmas.List.{append-nil}
 use Rattle.av_perm.specs.Relations.{IsWord}
 use Rattle.av_perm.specs.declared.limits.TheConstants.{MAX_ROOT_LENGTH}
 use Rattle.av_perm.proofs.Membership.{Each}
-use Rattle.av_name.specs.declared.constraints.Known.TheVariants.{In as Inside, Out as Outside}
+use Rattle.av_name.specs.declared.constraints.Known.TheVariants.{Inside, Outside}
 use Rattle.av_split.specs.Split.{both, demands_known, next_question}
 use Rattle.av_split.specs.Boxes.{Question, Box, word_rules, demand, demands}
 use Rattle.av_split.proofs.GenericSplit.{next_finds}

@@ -7,7 +7,7 @@ use Rattle.std.proofs.lemmas.Option.{get_or_from_slice_get}
 use Rattle.std.proofs.Common.{slice_get}
 use Rattle.av_sys.specs.declared.names.Constraint.{Constraint}
 use Rattle.av_name.specs.declared.constraints.Known.{Known}
-use Rattle.av_name.specs.declared.constraints.Known.TheVariants.{In as Inside, Out as Outside, Open}
+use Rattle.av_name.specs.declared.constraints.Known.TheVariants.{Inside, Outside, Open}
 use Rattle.av_name.specs.Constraints.{free, answer}
 use Rattle.av_split.specs.Split.{both, all_of, at_open, first_open}
 use Rattle.av_split.specs.Boxes.{Question, Box, word_rules, ask}

@@ -1,7 +1,7 @@
 -- What is known of the embeddings of a word, and of the demands of a name, gone through from the front.
 use Rattle.std.proofs.Common.{◌≡◌, List, [], ◌∷◌, ◌++◌, Bool, true, false, Option, Some, None, refl, sym, ap, subst}
 use Rattle.av_name.specs.declared.constraints.Known.{Known}
-use Rattle.av_name.specs.declared.constraints.Known.TheVariants.{In as Inside, Out as Outside, Open}
+use Rattle.av_name.specs.declared.constraints.Known.TheVariants.{Inside, Outside, Open}
 use Rattle.av_split.specs.Split.{turned, some_of, first_open, Demand, demand_known}
 use Rattle.av_split.specs.Boxes.{Question, Box, word_rules}
 use Rattle.av_split.specs.Cells.{or_first}

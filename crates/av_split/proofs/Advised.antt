@@ -6,7 +6,7 @@ use Rattle.av_perm.proofs.Membership.{Each, In_at, at_In}
 use Rattle.av_perm.proofs.MinimalWords.{words_each}
 use Rattle.av_sys.specs.declared.names.Constraint.{Constraint}
 use Rattle.av_sys.specs.Names.{Meets}
-use Rattle.av_name.specs.declared.constraints.Known.TheVariants.{In as Inside, Out as Outside}
+use Rattle.av_name.specs.declared.constraints.Known.TheVariants.{Inside, Outside}
 use Rattle.av_name.specs.Constraints.{free}
 use Rattle.av_name.proofs.Answered.{inside_says, outside_says, free_meets}
 use Rattle.av_split.specs.Split.{demands_known, questions_of}

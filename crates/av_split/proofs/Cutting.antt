@@ -11,7 +11,7 @@ use Rattle.std.proofs.lemmas.List.Elements.{All-get_or}
 use Rattle.av_perm.specs.Relations.{IsWord}
 use Rattle.av_sys.specs.declared.names.Constraint.{Constraint}
 use Rattle.av_name.specs.declared.constraints.Known.{Known}
-use Rattle.av_name.specs.declared.constraints.Known.TheVariants.{In as Inside, Out as Outside, Open}
+use Rattle.av_name.specs.declared.constraints.Known.TheVariants.{Inside, Outside, Open}
 use Rattle.av_name.specs.Constraints.{free, answer}
 use Rattle.av_name.proofs.Growth.{IsFit}
 use Rattle.av_split.specs.declared.cells.Cell.{Cell}

@@ -4,7 +4,7 @@ use Rattle.std.specs.List.{flat_map}
 use Rattle.av_perm.specs.Members.{In}
 use Rattle.av_perm.proofs.Membership.{Each, SomeIn, In_at, In_one, In_append_cases, append_left, append_right, flat_map_In}
 use Rattle.av_name.specs.declared.constraints.Known.{Known}
-use Rattle.av_name.specs.declared.constraints.Known.TheVariants.{In as Inside, Out as Outside, Open}
+use Rattle.av_name.specs.declared.constraints.Known.TheVariants.{Inside, Outside, Open}
 use Rattle.av_split.specs.Split.{both, either, turned, all_of, some_of, Demand, demand_known, demands_known, at_open, first_open, next_question, Rules, outcome, split_by, questions_of, boxes_by, NeverStuck}
 
 -- Known facts are true

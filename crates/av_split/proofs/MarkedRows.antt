@@ -14,7 +14,7 @@ use Rattle.av_perm.proofs.Occurrences.{contains_from, contains_to}
 use Rattle.av_perm.proofs.Containment.{contains_same}
 use Rattle.av_perm.proofs.MinimalWords.{minimal_is, maximal_is, minimal_ascending, maximal_ascending}
 use Rattle.av_sys.specs.declared.names.Constraint.{Constraint}
-use Rattle.av_name.specs.declared.constraints.Known.TheVariants.{In as Inside, Open as Unknown}
+use Rattle.av_name.specs.declared.constraints.Known.TheVariants.{Inside, Open as Unknown}
 use Rattle.av_name.specs.Constraints.{free, answer, known_by}
 use Rattle.av_name.proofs.Answered.{open_is}
 use Rattle.av_name.proofs.Growth.{IsFit}

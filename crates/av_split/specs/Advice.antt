@@ -3,7 +3,7 @@
 use Rattle.std.specs.Prelude.{◌≡◌, ℕ, ◌<◌, List, length, Some}
 use Rattle.av_perm.specs.Relations.{IsWord, AreWords, AreBlocks, inflate}
 use Rattle.av_sys.specs.Names.{Meets}
-use Rattle.av_name.specs.declared.constraints.Known.TheVariants.{In as Inside, Out as Outside, Open}
+use Rattle.av_name.specs.declared.constraints.Known.TheVariants.{Inside, Outside, Open}
 use Rattle.av_split.specs.Split.{demands_known, next_question}
 use Rattle.av_split.specs.Boxes.{Question, Box, word_rules, demands}
 use Rattle.av_split.specs.Laws.{LiesIn}

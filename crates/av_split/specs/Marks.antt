@@ -5,7 +5,7 @@ use Rattle.av_perm.specs.Contain.{contains}
 use Rattle.av_perm.specs.Class.{in_shortlex}
 use Rattle.av_sys.specs.declared.names.Constraint.{Constraint}
 use Rattle.av_name.specs.declared.constraints.Known.{Known}
-use Rattle.av_name.specs.declared.constraints.Known.TheVariants.{In as Inside, Out as Outside, Open as Unknown}
+use Rattle.av_name.specs.declared.constraints.Known.TheVariants.{Inside, Outside, Open as Unknown}
 use Rattle.av_name.specs.Constraints.{once_avoided, once_required}
 use Rattle.av_split.specs.declared.rows.Mark.{Mark}
 

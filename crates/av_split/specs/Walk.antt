@@ -5,7 +5,7 @@ use Rattle.av_perm.specs.declared.words.Memory.{Memory}
 use Rattle.av_perm.specs.Members.{In}
 use Rattle.av_perm.specs.Relations.{IsWord}
 use Rattle.av_name.specs.Constraints.{answer}
-use Rattle.av_name.specs.declared.constraints.Known.TheVariants.{In as Inside, Open}
+use Rattle.av_name.specs.declared.constraints.Known.TheVariants.{Inside, Open}
 use Rattle.av_split.specs.declared.cells.Cell.{Cell}
 use Rattle.av_split.specs.declared.rows.Mark.{Mark}
 use Rattle.av_split.specs.declared.path.Path.{Path}

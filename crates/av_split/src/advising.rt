@@ -55,8 +55,8 @@ fn child_step(cell: &SplitBox, word: &Perm, places: &Map, child: usize) -> WordS
 {
     match fibre(word, places, child + 1) {
         Some(pattern) => match answer(cell.get(child), &pattern) {
-            Known::In => WordStep::Holds,
-            Known::Out => WordStep::Fails,
+            Known::Inside => WordStep::Holds,
+            Known::Outside => WordStep::Fails,
             Known::Open => WordStep::Asks {
                 child,
                 word: pattern,

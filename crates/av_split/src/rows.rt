@@ -20,9 +20,15 @@ fn once(required: bool, known: Known) -> Known
     ensures { result ≡ once required true known }
 {
     match known {
-        Known::Open => { if required { Known::In } else { Known::Out } }
-        Known::In => Known::In,
-        Known::Out => Known::Out,
+        Known::Open => {
+            if required {
+                Known::Inside
+            } else {
+                Known::Outside
+            }
+        }
+        Known::Inside => Known::Inside,
+        Known::Outside => Known::Outside,
     }
 }
 
@@ -46,8 +52,8 @@ fn is_side(required: bool, known: Known) -> bool
 {
     match known {
         Known::Open => false,
-        Known::In => required,
-        Known::Out => !required,
+        Known::Inside => required,
+        Known::Outside => !required,
     }
 }
 

@@ -57,8 +57,8 @@ fn embedding_step(rows: &[Row], cells: &Cells) -> Step
     let mut found = None;
     for cell in cells.as_slice() {
         match known_at(rows, *cell) {
-            Known::In => {}
-            Known::Out => return Step::Fails,
+            Known::Inside => {}
+            Known::Outside => return Step::Fails,
             Known::Open => found = or_first(found, *cell),
         }
     }
@@ -107,9 +107,9 @@ fn turned(required: bool, step: Step) -> Step
 fn first_step(rows: &[Row], demands: &CellDemands, from: usize) -> (usize, Step)
     requires cells { HaveCellsOf rows.now demands.now }
     requires within { from ≤ length demands.now }
-    requires done { all_of (demand_known (known_at rows.now)) (take from demands.now) ≡ Known.In }
+    requires done { all_of (demand_known (known_at rows.now)) (take from demands.now) ≡ Known.Inside }
     ensures within { result.0 ≤ length demands.now }
-    ensures done { all_of (demand_known (known_at rows.now)) (take result.0 demands.now) ≡ Known.In }
+    ensures done { all_of (demand_known (known_at rows.now)) (take result.0 demands.now) ≡ Known.Inside }
     ensures step { IsFirst result.1 (demand_known (known_at rows.now)) (first_cell rows.now) (drop result.0 demands.now) }
 {
     let demands = demands.as_slice();
@@ -126,8 +126,8 @@ fn first_step(rows: &[Row], demands: &CellDemands, from: usize) -> (usize, Step)
 // Whether a demand is broken.
 fn is_broken(rows: &[Row], demand: &CellDemand) -> bool
     requires { HasCellsOf rows.now demand.now }
-    ensures broken { result ≡ true → demand_known (known_at rows.now) demand.now ≡ Known.Out }
-    ensures whole { result ≡ false → demand_known (known_at rows.now) demand.now ≡ Known.Out → ⊥ }
+    ensures broken { result ≡ true → demand_known (known_at rows.now) demand.now ≡ Known.Outside }
+    ensures whole { result ≡ false → demand_known (known_at rows.now) demand.now ≡ Known.Outside → ⊥ }
 {
     match demand_step(rows, demand) {
         Step::Holds => false,
@@ -151,8 +151,8 @@ fn some_broken(rows: &[Row], demands: &CellDemands, from: usize, last: Option<bo
     requires cells { HaveCellsOf rows.now demands.now }
     requires within { from < length demands.now }
     requires safe { AreSafe last (demand_known (known_at rows.now)) demands.now }
-    ensures broken { result ≡ true → all_of (demand_known (known_at rows.now)) (drop (from + 1) demands.now) ≡ Known.Out }
-    ensures whole { result ≡ false → all_of (demand_known (known_at rows.now)) (drop (from + 1) demands.now) ≡ Known.Out → ⊥ }
+    ensures broken { result ≡ true → all_of (demand_known (known_at rows.now)) (drop (from + 1) demands.now) ≡ Known.Outside }
+    ensures whole { result ≡ false → all_of (demand_known (known_at rows.now)) (drop (from + 1) demands.now) ≡ Known.Outside → ⊥ }
 {
     let demands = demands.as_slice();
     for i in from + 1..demands.len() {
@@ -175,10 +175,10 @@ pub fn rows_step(
 ) -> (usize, Step)
     requires cells { HaveCellsOf rows.now demands.now }
     requires within { from ≤ length demands.now }
-    requires done { all_of (demand_known (known_at rows.now)) (take from demands.now) ≡ Known.In }
+    requires done { all_of (demand_known (known_at rows.now)) (take from demands.now) ≡ Known.Inside }
     requires safe { AreSafe last (demand_known (known_at rows.now)) demands.now }
     ensures within { result.0 ≤ length demands.now }
-    ensures done { all_of (demand_known (known_at rows.now)) (take result.0 demands.now) ≡ Known.In }
+    ensures done { all_of (demand_known (known_at rows.now)) (take result.0 demands.now) ≡ Known.Inside }
     ensures step { IsStep result.1 (demands_known (known_at rows.now) demands.now) (next_question (known_at rows.now) demands.now) }
 {
     let (first, step) = first_step(rows, demands, from);
@@ -199,10 +199,10 @@ pub fn rows_step(
 pub fn next_step(path: &Path, demands: &CellDemands) -> (usize, Step)
     requires cells { HaveCellsOf path.now.rows.items demands.now }
     requires within { path.now.from ≤ length demands.now }
-    requires done { all_of (demand_known (known_at path.now.rows.items)) (take path.now.from demands.now) ≡ Known.In }
+    requires done { all_of (demand_known (known_at path.now.rows.items)) (take path.now.from demands.now) ≡ Known.Inside }
     requires safe { AreSafe path.now.last (demand_known (known_at path.now.rows.items)) demands.now }
     ensures within { result.0 ≤ length demands.now }
-    ensures done { all_of (demand_known (known_at path.now.rows.items)) (take result.0 demands.now) ≡ Known.In }
+    ensures done { all_of (demand_known (known_at path.now.rows.items)) (take result.0 demands.now) ≡ Known.Inside }
     ensures step { IsStep result.1 (demands_known (known_at path.now.rows.items) demands.now) (next_question (known_at path.now.rows.items) demands.now) }
 {
     rows_step(&path.rows, path.from, path.last, demands)

@@ -196,7 +196,7 @@ fn free_mark(word: &Perm) -> Mark
     ensures { result ≡ free_mark word.now }
 {
     let known = if word.len() == 1 {
-        Known::In
+        Known::Inside
     } else {
         Known::Open
     };

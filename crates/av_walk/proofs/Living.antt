@@ -2,7 +2,7 @@
 use Rattle.std.proofs.Common.{◌≡◌, inl, inr, List, [], ◌∷◌, ◌++◌, refl, sym, ap, ◌∙◌, subst}
 use Rattle.av_perm.specs.Members.{In}
 use Rattle.av_name.specs.declared.constraints.Known.{Known}
-use Rattle.av_name.specs.declared.constraints.Known.TheVariants.{Out as Outside}
+use Rattle.av_name.specs.declared.constraints.Known.TheVariants.{Outside}
 use Rattle.av_split.specs.declared.cells.Cell.{Cell}
 use Rattle.av_split.specs.Split.{at_open, first_open}
 use Rattle.av_walk.specs.Walk.{Literal, literal_known, term_known, one_more, inside_count, next_of_terms}

@@ -2,7 +2,7 @@
 use Rattle.std.proofs.Common.{◌≡◌, ℕ, ◌<◌, List, take, length, Bool, true, false, Some, sym, ap, ◌∙◌, subst}
 use Rattle.av_perm.specs.Members.{In}
 use Rattle.av_name.specs.declared.constraints.Known.{Known}
-use Rattle.av_name.specs.declared.constraints.Known.TheVariants.{In as Inside, Out as Outside, Open}
+use Rattle.av_name.specs.declared.constraints.Known.TheVariants.{Inside, Outside, Open}
 use Rattle.av_split.specs.declared.cells.Cell.{Cell}
 use Rattle.av_split.specs.Split.{turned, all_of, Demand, demand_known, demands_known}
 use Rattle.av_split.specs.Boxes.{Question}

@@ -2,7 +2,7 @@
 use Rattle.std.specs.Prelude.{◌≡◌, ◌⊎◌, ℕ, ◌<◌, ◌+◌, min, List, [], ◌∷◌, ◌++◌, map, length, get_or, All, Option, Some}
 use Rattle.av_perm.specs.Members.{In}
 use Rattle.av_name.specs.declared.constraints.Known.{Known}
-use Rattle.av_name.specs.declared.constraints.Known.TheVariants.{Out as Outside}
+use Rattle.av_name.specs.declared.constraints.Known.TheVariants.{Outside}
 use Rattle.av_split.specs.declared.cells.Cell.{Cell}
 use Rattle.av_split.specs.declared.rows.Mark.{Mark}
 use Rattle.av_split.specs.declared.steps.Step.{Step}

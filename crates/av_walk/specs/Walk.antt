@@ -2,7 +2,7 @@
 -- in it. For any kind of box and question.
 use Rattle.std.specs.Prelude.{ℕ, zero, suc, ◌+◌, List, [], ◌∷◌, ◌++◌, Bool, false, true, Option, Some, None, length, sum_by}
 use Rattle.av_name.specs.declared.constraints.Known.{Known}
-use Rattle.av_name.specs.declared.constraints.Known.TheVariants.{In as Inside, Out as Outside, Open}
+use Rattle.av_name.specs.declared.constraints.Known.TheVariants.{Inside, Outside, Open}
 use Rattle.av_split.specs.Split.{turned, all_of, Demand, demands_known, first_open, next_question, Rules, questions_of}
 
 -- what a term asks of a question: that it holds, or that it doesn't

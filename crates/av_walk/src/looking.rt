@@ -97,7 +97,7 @@ fn open_look(
     requires terms { AreCellsOfTerms rows.now terms.now }
     requires all { AreAll terms.now all.now }
     requires within { from ≤ length demands.now }
-    requires done { all_of (demand_known (known_at rows.now)) (take from demands.now) ≡ Known.In }
+    requires done { all_of (demand_known (known_at rows.now)) (take from demands.now) ≡ Known.Inside }
     requires safe { AreSafe last (demand_known (known_at rows.now)) demands.now }
     ensures { IfOk result (λ look. IsLook (known_at rows.now) demands.now terms.now look) }
 {

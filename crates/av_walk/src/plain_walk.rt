@@ -30,8 +30,8 @@ fn words_step(cell: &SplitBox, child: usize, required: bool, words: &Words, befo
                 word: word.copy(),
             },
             (Known::Open, step) => step,
-            (Known::In, step) => { if required { step } else { Step::Refuted } }
-            (Known::Out, step) => { if required { Step::Refuted } else { step } }
+            (Known::Inside, step) => { if required { step } else { Step::Refuted } }
+            (Known::Outside, step) => { if required { Step::Refuted } else { step } }
         };
     }
     step

@@ -22,8 +22,8 @@ fn turned(required: bool, known: Known) -> Known
         return known;
     }
     match known {
-        Known::In => Known::Out,
-        Known::Out => Known::In,
+        Known::Inside => Known::Outside,
+        Known::Outside => Known::Inside,
         Known::Open => Known::Open,
     }
 }
@@ -36,8 +36,8 @@ fn term_step(rows: &[Row], term: &CellTerm) -> Step
     let mut found = None;
     for literal in term.as_slice() {
         match turned(literal.is_required(), known_at(rows, literal.cell())) {
-            Known::In => {}
-            Known::Out => return Step::Fails,
+            Known::Inside => {}
+            Known::Outside => return Step::Fails,
             Known::Open => found = or_first(found, literal.cell()),
         }
     }

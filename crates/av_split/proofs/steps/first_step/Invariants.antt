@@ -1,6 +1,6 @@
 -- The demands gone through are done.
 use Rattle.std.proofs.Common.{◌≡◌, take}
-use Rattle.av_name.specs.declared.constraints.Known.TheVariants.{In as Inside}
+use Rattle.av_name.specs.declared.constraints.Known.TheVariants.{Inside}
 use Rattle.av_split.specs.Split.{all_of, demand_known}
 use Rattle.av_split.specs.Cells.{known_at}
 use Rattle.av_split.proofs.steps.first_step.Given as goal
