@@ -23,7 +23,7 @@ use Rattle.av_sys.specs.declared.names.Name.{Name}
 use Rattle.av_name.specs.declared.constraints.Known.{Known}
 use Rattle.av_name.specs.declared.constraints.Known.TheVariants.{Inside}
 use Rattle.av_name.specs.Constraints.{free}
-use Rattle.av_name.proofs.Answered.{outside_is}
+use Rattle.av_name.proofs.KnownPatterns.{outside_is}
 use Rattle.av_split.specs.Split.{Demand, all_of, some_of, demand_known, demands_known, questions_of}
 use Rattle.av_split.specs.Boxes.{Question, Box, child_of, word_rules, ask, questions, demand, demands}
 use Rattle.av_split.proofs.GenericSplit.{each_inside, each_outside, one_outside, unflipped}
@@ -49,10 +49,10 @@ use Rattle.av_check.proofs.RightNames.{not_misnamed}
 use Rattle.av_check.proofs.TidyNames.{top_same}
 
 -- where all demands of a name are done in a cell, each avoided word of the name contains an avoided word of each child
-cell_avoids : (π : List ℕ) (A R : List (List ℕ)) (γ : List ℕ) (x : Box) (i : ℕ) → Each IsWord A → In γ A → demands_known (word_rules.answer x) (demands π A R) ≡ Inside → i < length π
+cell_avoids : (π : List ℕ) (A R : List (List ℕ)) (γ : List ℕ) (x : Box) (i : ℕ) → Each IsWord A → In γ A → demands_known (word_rules.known x) (demands π A R) ≡ Inside → i < length π
     → (a : List ℕ) × In a (child_of x i).avoid × Contains γ a
 cell_avoids π A R γ x i ga inA done hi =
-    let f : Question → Known = word_rules.answer x in
+    let f : Question → Known = word_rules.known x in
     let d = each_inside (demand_known f) (demands π A R) done (demand π false γ) (append_left (map (demand π false) A) (map (demand π true) R) (demand π false γ) (map_In (demand π false) A γ inA)) in
     let out = unflipped (some_of (all_of f) (map (questions π γ) (embeddings π γ))) d in
     let e : List ℕ = replicate (length γ) (suc i) in

@@ -13,7 +13,7 @@ use Rattle.av_check.proofs.CellTreatments.{IsSettled, IsFair, ends_settled}
 -- a box that is split, at an open question of those that there are
 pub record IsCut {B Q : Type 0} (r : Rules B Q) (ds : List (Demand Q)) (ts : List (List (Literal Q))) (b : B) (q : Q) : Type 0 where
   pub treated : treatment r ds ts b ≡ splits q
-  pub unknown : r.answer b q ≡ Open
+  pub unknown : r.known b q ≡ Open
   pub there : In q (questions_with ds ts)
 
 -- the leaf of a box that ends
@@ -25,8 +25,8 @@ module _ {B Q : Type 0} (r : Rules B Q) (ds : List (Demand Q)) (ts : List (List 
   pub box_cases : (b : B) → ((x : Ending) × (treatment r ds ts b ≡ ends x)) ⊎ ((q : Q) × IsCut r ds ts b q)
   box_cases b = elim (treatment_cases (treatment r ds ts b)) [
     | inl k ↦ inl k
-    | inr (inl k) ↦ let a = splits_asked (r.answer b) ds ts k.0 k.1 in inr (k.0, record { treated = k.1; unknown = a.0; there = a.1 })
-    | inr (inr k) ↦ absurd (never_stuck (r.answer b) ds ts k)
+    | inr (inl k) ↦ let a = splits_asked (r.known b) ds ts k.0 k.1 in inr (k.0, record { treated = k.1; unknown = a.0; there = a.1 })
+    | inr (inr k) ↦ absurd (never_stuck (r.known b) ds ts k)
   ]
 
 module _ {B Q : Type 0} (r : Rules B Q) (Fine : B → Type 0) (Apt : Q → Type 0) (law : Lawful r Fine Apt) (ds : List (Demand Q)) (ts : List (List (Literal Q))) (apt : Each Apt (questions_with ds ts)) where
@@ -73,8 +73,8 @@ module _ {B Q : Type 0} (r : Rules B Q) (Fine : B → Type 0) (Apt : Q → Type 
       (λ b q xs ys f c g h l i. elim (In_append_cases xs ys l i) [ inl j ↦ g l j | inr j ↦ h l j ])
 
   -- one without a flaw of its own is settled
-  pub leaf_settled : (l : Leaf B) → IsLeaf l → IsFair l.ending → IsSettled (r.answer l.cell) ds ts l.ending
-  leaf_settled l h fair = ends_settled (r.answer l.cell) ds ts l.ending fair h.is
+  pub leaf_settled : (l : Leaf B) → IsLeaf l → IsFair l.ending → IsSettled (r.known l.cell) ds ts l.ending
+  leaf_settled l h fair = ends_settled (r.known l.cell) ds ts l.ending fair h.is
 
   module _ (Lies : B → Type 0) (H : Q → Type 0) (meant : Meant r Fine Apt Lies H) where
     -- what lies in the cell of a leaf

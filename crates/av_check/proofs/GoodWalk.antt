@@ -40,11 +40,11 @@ none_picked f g (x ∷ xs) h = by (f x) refl (none_picked f g xs (λ y i. h y (i
 -- what the boxes and their terms are to each other: a box's own term is inside, a refuted term stays so, and a box below one
 -- part of a split is refuted in the other. `Marks` says that a box avoids a question (`false`) or requires it (`true`)
 pub record Telling {B Q : Type 0} (r : Rules B Q) (Fine : B → Type 0) (Apt : Q → Type 0) (term_of : B → List (Literal Q)) (Marks : Bool → Q → B → Type 0) : Type 0 where
-  pub own : (b : B) → Fine b → term_known (r.answer b) (term_of b) ≡ Inside
-  pub stays : (w : Bool) (b x : B) (q : Q) → Fine b → Fine x → Apt q → r.answer b q ≡ Open → Refuted (r.answer b) (term_of x) → Refuted (r.answer (r.settle w b q)) (term_of x)
-  pub marks : (w : Bool) (b : B) (q : Q) → Fine b → Apt q → r.answer b q ≡ Open → Marks w q (r.settle w b q)
-  pub keeps : (w s : Bool) (b : B) (q p : Q) → Fine b → Apt q → Apt p → r.answer b q ≡ Open → Marks s p b → Marks s p (r.settle w b q)
-  pub refutes : (w : Bool) (b x : B) (q : Q) → Fine b → Fine x → Apt q → r.answer b q ≡ Open → Marks w q x → Refuted (r.answer (r.settle (not w) b q)) (term_of x)
+  pub own : (b : B) → Fine b → term_known (r.known b) (term_of b) ≡ Inside
+  pub stays : (w : Bool) (b x : B) (q : Q) → Fine b → Fine x → Apt q → r.known b q ≡ Open → Refuted (r.known b) (term_of x) → Refuted (r.known (r.settle w b q)) (term_of x)
+  pub marks : (w : Bool) (b : B) (q : Q) → Fine b → Apt q → r.known b q ≡ Open → Marks w q (r.settle w b q)
+  pub keeps : (w s : Bool) (b : B) (q p : Q) → Fine b → Apt q → Apt p → r.known b q ≡ Open → Marks s p b → Marks s p (r.settle w b q)
+  pub refutes : (w : Bool) (b x : B) (q : Q) → Fine b → Fine x → Apt q → r.known b q ≡ Open → Marks w q x → Refuted (r.known (r.settle (not w) b q)) (term_of x)
 
 module _ {B Q : Type 0} (r : Rules B Q) (Fine : B → Type 0) (Apt : Q → Type 0) (law : Lawful r Fine Apt) (ds : List (Demand Q)) (apt : Each Apt (questions_of ds))
     (term_of : B → List (Literal Q)) (Marks : Bool → Q → B → Type 0) (tell : Telling r Fine Apt term_of Marks) where
@@ -78,10 +78,10 @@ module _ {B Q : Type 0} (r : Rules B Q) (Fine : B → Type 0) (Apt : Q → Type 
 
     -- a fine box that is refuted in another
     abbrev pub IsOut : B → B → Type 0
-    IsOut b x = Fine x × Refuted (r.answer b) (term_of x)
+    IsOut b x = Fine x × Refuted (r.known b) (term_of x)
 
-    terms_out : (b : B) (xs : List B) → Each (IsOut b) xs → Each (Refuted (r.answer b)) (map term_of xs)
-    terms_out b xs h t i = let s = In_map term_of xs t i in subst (Refuted (r.answer b)) (sym s.2) (h s.0 s.1).1
+    terms_out : (b : B) (xs : List B) → Each (IsOut b) xs → Each (Refuted (r.known b)) (map term_of xs)
+    terms_out b xs h t i = let s = In_map term_of xs t i in subst (Refuted (r.known b)) (sym s.2) (h s.0 s.1).1
 
     -- the leaf of a box that ends
     one_leaf : (d : ℕ) (b : B) (x : Ending) (l : Leaf B) → treatment r ds kept_terms b ≡ ends x → In l (walk_by r ds kept_terms d b) → l ≡ leaf_of b x
@@ -89,11 +89,11 @@ module _ {B Q : Type 0} (r : Rules B Q) (Fine : B → Type 0) (Apt : Q → Type 
     one_leaf (suc d) b x l e i = In_one l (leaf_of b x) (subst (In l) (ap (λ t. leaves_by t b (λ q. walk_by r ds kept_terms d (r.settle false b q) ++ walk_by r ds kept_terms d (r.settle true b q))) e) i)
 
     -- what becomes of a box, by what is known of it
-    treated_is : (b : B) (k : Known) (c : ℕ) (o n : Option Q) → demands_known (r.answer b) ds ≡ k → inside_count (r.answer b) kept_terms ≡ c → next_of_terms (r.answer b) kept_terms ≡ o → next_question (r.answer b) ds ≡ n
+    treated_is : (b : B) (k : Known) (c : ℕ) (o n : Option Q) → demands_known (r.known b) ds ≡ k → inside_count (r.known b) kept_terms ≡ c → next_of_terms (r.known b) kept_terms ≡ o → next_question (r.known b) ds ≡ n
         → treatment r ds kept_terms b ≡ treated k c o n
     treated_is b k c o n e f g h =
-        ap (λ x. treated x (inside_count (r.answer b) kept_terms) (next_of_terms (r.answer b) kept_terms) (next_question (r.answer b) ds)) e
-        ∙ ap₂ (λ x y. treated k x y (next_question (r.answer b) ds)) f g
+        ap (λ x. treated x (inside_count (r.known b) kept_terms) (next_of_terms (r.known b) kept_terms) (next_question (r.known b) ds)) e
+        ∙ ap₂ (λ x y. treated k x y (next_question (r.known b) ds)) f g
         ∙ ap (λ x. treated k c o x) h
 
     -- the kept boxes are those below a box, and others that are refuted in it
@@ -107,32 +107,32 @@ module _ {B Q : Type 0} (r : Rules B Q) (Fine : B → Type 0) (Apt : Q → Type 
 
     -- how many terms are inside, and the next question of those that are open
     abbrev Counts : B → ℕ → Type 0
-    Counts b c = (inside_count (r.answer b) kept_terms ≡ c) × (next_of_terms (r.answer b) kept_terms ≡ None)
+    Counts b c = (inside_count (r.known b) kept_terms ≡ c) × (next_of_terms (r.known b) kept_terms ≡ None)
 
-    none_asked : (b : B) → Each (λ t. term_known (r.answer b) t ≡ Open → ⊥) kept_terms → next_of_terms (r.answer b) kept_terms ≡ None
-    none_asked b = none_picked (term_known (r.answer b)) (λ (t : List (Literal Q)). first_open (literal_known (r.answer b)) (λ (l : Literal Q). Some l.question) t) kept_terms
+    none_asked : (b : B) → Each (λ t. term_known (r.known b) t ≡ Open → ⊥) kept_terms → next_of_terms (r.known b) kept_terms ≡ None
+    none_asked b = none_picked (term_known (r.known b)) (λ (t : List (Literal Q)). first_open (literal_known (r.known b)) (λ (l : Literal Q). Some l.question) t) kept_terms
 
-    out_not_open : (b : B) (t : List (Literal Q)) → Refuted (r.answer b) t → term_known (r.answer b) t ≡ Open → ⊥
+    out_not_open : (b : B) (t : List (Literal Q)) → Refuted (r.known b) t → term_known (r.known b) t ≡ Open → ⊥
     out_not_open b t h e = let z : Outside ≡ Open = sym h ∙ e in cc
 
     -- where no box is left below, all terms are refuted
     amid_none : (b : B) → IsAmid b → filter keep (boxes_by r ds b) ≡ [] → Counts b 0
     amid_none b a e =
-        let h : Each (Refuted (r.answer b)) kept_terms = terms_out b (filter keep bs) (λ x i. elim (In_append_cases a.before a.after x (subst (In x) (a.is ∙ ap (λ l. a.before ++ (l ++ a.after)) e) i)) [
+        let h : Each (Refuted (r.known b)) kept_terms = terms_out b (filter keep bs) (λ x i. elim (In_append_cases a.before a.after x (subst (In x) (a.is ∙ ap (λ l. a.before ++ (l ++ a.after)) e) i)) [
           | inl j ↦ a.before_out x j
           | inr j ↦ a.after_out x j
         ]) in
-        (refuted_count (r.answer b) kept_terms h, none_asked b (λ t i. out_not_open b t (h t i)))
+        (refuted_count (r.known b) kept_terms h, none_asked b (λ t i. out_not_open b t (h t i)))
 
     -- where the box itself is left, its term alone is inside
     amid_one : (b : B) → Fine b → IsAmid b → filter keep (boxes_by r ds b) ≡ b ∷ [] → Counts b 1
     amid_one b f a e =
         let is : kept_terms ≡ map term_of a.before ++ term_of b ∷ map term_of a.after =
         ap (map term_of) (a.is ∙ ap (λ l. a.before ++ (l ++ a.after)) e) ∙ map-append term_of a.before (b ∷ a.after) in (
-          ap (inside_count (r.answer b)) is ∙ one_count (r.answer b) (map term_of a.before) (term_of b) (map term_of a.after) (terms_out b a.before a.before_out) (tell.own b f) (terms_out b a.after a.after_out),
+          ap (inside_count (r.known b)) is ∙ one_count (r.known b) (map term_of a.before) (term_of b) (map term_of a.after) (terms_out b a.before a.before_out) (tell.own b f) (terms_out b a.after a.after_out),
           none_asked b (λ t i. elim (In_append_cases (map term_of a.before) (term_of b ∷ map term_of a.after) t (subst (In t) is i)) [
             | inl j ↦ out_not_open b t (terms_out b a.before a.before_out t j)
-            | inr (inl j) ↦ λ g. let z : Inside ≡ Open = sym (tell.own b f) ∙ ap (term_known (r.answer b)) (sym j) ∙ g in cc
+            | inr (inl j) ↦ λ g. let z : Inside ≡ Open = sym (tell.own b f) ∙ ap (term_known (r.known b)) (sym j) ∙ g in cc
             | inr (inr j) ↦ out_not_open b t (terms_out b a.after a.after_out t j)
           ]),
         )
@@ -188,24 +188,24 @@ module _ {B Q : Type 0} (r : Rules B Q) (Fine : B → Type 0) (Apt : Q → Type 
     -- a leaf of a box that is amid fits, where those of its parts do
     box_fits : (d : ℕ) (b : B) (l : Leaf B) → Fine b → IsAmid b → In l (walk_by r ds kept_terms d b)
         → ((q : Q) → ((w : Bool) → Fine (r.settle w b q) × IsAmid (r.settle w b q)) → treatment r ds kept_terms b ≡ splits q → IsFitting l) → IsFitting l
-    box_fits d b l f a i below = elim (known_cases (demands_known (r.answer b) ds)) [
+    box_fits d b l f a i below = elim (known_cases (demands_known (r.known b) ds)) [
       | inl k ↦
           let o = amid_none b a (ap (filter keep) (boxes_outside r Fine Apt law ds apt b k)) in
-          end_leaf b good l f (one_leaf d b good l (treated_is b Outside 0 None (next_question (r.answer b) ds) k o.0 o.1 refl) i) (inl refl)
+          end_leaf b good l f (one_leaf d b good l (treated_is b Outside 0 None (next_question (r.known b) ds) k o.0 o.1 refl) i) (inl refl)
       | inr (inl k) ↦
           let here : filter keep (boxes_by r ds b) ≡ filter keep (b ∷ []) = ap (filter keep) (boxes_inside r Fine Apt law ds apt b k) in
           elim (cases_Bool (keep b)) [
             | inl t ↦
                 let o = amid_one b f a (here ∙ filter_one b true t) in
-                end_leaf b good l f (one_leaf d b good l (treated_is b Inside 1 None (next_question (r.answer b) ds) k o.0 o.1 refl) i) (inl refl)
+                end_leaf b good l f (one_leaf d b good l (treated_is b Inside 1 None (next_question (r.known b) ds) k o.0 o.1 refl) i) (inl refl)
             | inr t ↦
                 let o = amid_none b a (here ∙ filter_one b false t) in
-                end_leaf b bare l f (one_leaf d b bare l (treated_is b Inside 0 None (next_question (r.answer b) ds) k o.0 o.1 refl) i) (inr (refl, t, a.listed b (subst (In b) (sym (boxes_inside r Fine Apt law ds apt b k)) (inl refl))))
+                end_leaf b bare l f (one_leaf d b bare l (treated_is b Inside 0 None (next_question (r.known b) ds) k o.0 o.1 refl) i) (inr (refl, t, a.listed b (subst (In b) (sym (boxes_inside r Fine Apt law ds apt b k)) (inl refl))))
           ]
       | inr (inr k) ↦
           let n = asks r ds b k in
           below n.0 (λ w. (part_fine w b n.0 f n.1, amid_part w b n.0 f n.1 a))
-          (treated_is b Open (inside_count (r.answer b) kept_terms) (next_of_terms (r.answer b) kept_terms) (Some n.0) k refl refl n.1.next)
+          (treated_is b Open (inside_count (r.known b) kept_terms) (next_of_terms (r.known b) kept_terms) (Some n.0) k refl refl n.1.next)
     ]
 
     -- each leaf of a walk from such a box

@@ -72,18 +72,18 @@ literals_apt k i (n ∷ ns) h w l j = elim (In_append_cases (child_literals i n)
 
 module _ (k : ℕ) (αs : List (List ℕ)) (filled : (i : ℕ) → i < k → 1 ≤ length (block αs i)) (b : Box) (fine : Fine k b) (lies : Lies k αs b) where
   -- what is known of a literal in a box is true of what lies there
-  literal_says : (l : Literal Question) → Apt k l.question → (literal_known (word_rules.answer b) l ≡ Inside → LiteralHolds αs l) × (literal_known (word_rules.answer b) l ≡ Outside → LiteralHolds αs l → ⊥)
+  literal_says : (l : Literal Question) → Apt k l.question → (literal_known (word_rules.known b) l ≡ Inside → LiteralHolds αs l) × (literal_known (word_rules.known b) l ≡ Outside → LiteralHolds αs l → ⊥)
   literal_says l a =
       let s = (word_meant k αs filled).says b l.question fine a lies in
-      turned_says l.required (word_rules.answer b l.question) (Holds αs l.question) s.inside s.outside
+      turned_says l.required (word_rules.known b l.question) (Holds αs l.question) s.inside s.outside
 
   -- a term that is inside holds
-  pub inside_holds : (t : List (Literal Question)) → Each (λ (l : Literal Question). Apt k l.question) t → term_known (word_rules.answer b) t ≡ Inside → Each (LiteralHolds αs) t
-  inside_holds t a e l i = (literal_says l (a l i)).0 (each_inside (literal_known (word_rules.answer b)) t e l i)
+  pub inside_holds : (t : List (Literal Question)) → Each (λ (l : Literal Question). Apt k l.question) t → term_known (word_rules.known b) t ≡ Inside → Each (LiteralHolds αs) t
+  inside_holds t a e l i = (literal_says l (a l i)).0 (each_inside (literal_known (word_rules.known b)) t e l i)
 
   -- a term that holds isn't refuted
-  pub holds_stays : (t : List (Literal Question)) → Each (λ (l : Literal Question). Apt k l.question) t → Each (LiteralHolds αs) t → term_known (word_rules.answer b) t ≡ Outside → ⊥
-  holds_stays t a h e = let r = one_outside (literal_known (word_rules.answer b)) t e in (literal_says r.0 (a r.0 r.1)).1 r.2 (h r.0 r.1)
+  pub holds_stays : (t : List (Literal Question)) → Each (λ (l : Literal Question). Apt k l.question) t → Each (LiteralHolds αs) t → term_known (word_rules.known b) t ≡ Outside → ⊥
+  holds_stays t a h e = let r = one_outside (literal_known (word_rules.known b)) t e in (literal_says r.0 (a r.0 r.1)).1 r.2 (h r.0 r.1)
 
 -- a word that means the name of an equation meets its lists
 mean_meets : (o : Option Equation) (σ : List ℕ) → MeansOf o σ → Meets (name_of_equation o).avoid (name_of_equation o).require σ

@@ -66,7 +66,7 @@ module _ (π : List ℕ) (n : Name) (nss : List (List Name)) (w : IsWord π) (ow
   leaf_fine l i = (each_leaf l i).fine
 
   -- one without a flaw of its own is settled
-  pub settled : (l : Leaf Box) → In l (leaves π n nss) → IsFair l.ending → IsSettled (word_rules.answer l.cell) ds ts l.ending
+  pub settled : (l : Leaf Box) → In l (leaves π n nss) → IsFair l.ending → IsSettled (word_rules.known l.cell) ds ts l.ending
   settled l i fair = leaf_settled word_rules (Fine (length π)) (Apt (length π)) (word_law (length π)) ds ts all_apt l (each_leaf l i) fair
 
   module _ (αs : List (List ℕ)) (b : AreBlocks π αs) where
@@ -93,14 +93,14 @@ module _ (π : List ℕ) (n : Name) (nss : List (List Name)) (w : IsWord π) (ow
       fine : Fine (length π) l.cell
       fine = leaf_fine l leaf.listed
 
-      is_settled : IsSettled (word_rules.answer l.cell) ds ts l.ending
+      is_settled : IsSettled (word_rules.known l.cell) ds ts l.ending
       is_settled = settled l leaf.listed fair
 
       -- what is known of the demands in the cell is true of the inflation
-      says : Says (demands_known (word_rules.answer l.cell)) (Each (Met (Holds αs))) ds
-      says = demands_say (word_rules.answer l.cell) (Holds αs) ds (λ q i. (word_meant (length π) αs b.filled).says l.cell q fine (own_apt q i) leaf.lies)
+      says : Says (demands_known (word_rules.known l.cell)) (Each (Met (Holds αs))) ds
+      says = demands_say (word_rules.known l.cell) (Holds αs) ds (λ q i. (word_meant (length π) αs b.filled).says l.cell q fine (own_apt q i) leaf.lies)
 
-      covers_stays : (ns : List Name) → In ns nss → CoversTerm ns → Stays (word_rules.answer l.cell) (literals 0 ns)
+      covers_stays : (ns : List Name) → In ns nss → CoversTerm ns → Stays (word_rules.known l.cell) (literals 0 ns)
       covers_stays ns i c = holds_stays (length π) αs b.filled l.cell fine leaf.lies (literals 0 ns) (term_apt ns i) (covers_hold αs 0 ns c)
 
       -- blocks that meet the names of a term make an inflation that meets the name
@@ -112,7 +112,7 @@ module _ (π : List ℕ) (n : Name) (nss : List (List Name)) (w : IsWord π) (ow
 
       -- they don't meet those of two
       pub terms_apart : Apart CoversTerm nss
-      terms_apart = apart_back CoversTerm (Stays (word_rules.answer l.cell)) (literals 0) nss covers_stays is_settled.apart
+      terms_apart = apart_back CoversTerm (Stays (word_rules.known l.cell)) (literals 0) nss covers_stays is_settled.apart
 
       -- the blocks of an inflation that meets the name meet those of one, or the leaf is bare
       pub term_complete : Meets n.avoid n.require (inflate π αs) → SomeIn CoversTerm nss ⊎ (l.ending ≡ bare)
@@ -121,7 +121,7 @@ module _ (π : List ℕ) (n : Name) (nss : List (List Name)) (w : IsWord π) (ow
         | inr k ↦ elim (is_settled.served k) [
           | inl s ↦
               let r = In_map (literals 0) nss s.0 s.1 in
-              let e : term_known (word_rules.answer l.cell) (literals 0 r.0) ≡ Inside = ap (term_known (word_rules.answer l.cell)) (sym r.2) ∙ s.2 in
+              let e : term_known (word_rules.known l.cell) (literals 0 r.0) ≡ Inside = ap (term_known (word_rules.known l.cell)) (sym r.2) ∙ s.2 in
               inl (r.0, r.1, hold_covers αs 0 r.0 (inside_holds (length π) αs b.filled l.cell fine leaf.lies (literals 0 r.0) (term_apt r.0 r.1) e))
           | inr e ↦ inr e
         ]

@@ -12,15 +12,15 @@ use Rattle.av_sys.specs.declared.names.Sign.TheVariants.{C}
 use Rattle.av_sys.specs.declared.names.Constraint.{Constraint}
 use Rattle.av_name.specs.declared.constraints.Known.{Known}
 use Rattle.av_name.specs.declared.constraints.Known.TheVariants.{Inside, Outside, Open}
-use Rattle.av_name.specs.Constraints.{free, answer}
-use Rattle.av_name.proofs.Answered.{inside_is, outside_is, open_is}
+use Rattle.av_name.specs.Constraints.{free, known_of}
+use Rattle.av_name.proofs.KnownPatterns.{inside_is, outside_is, open_is}
 use Rattle.av_name.proofs.Growth.{IsFit, avoid_has, require_has}
 use Rattle.av_split.specs.Split.{both, turned, all_of}
 use Rattle.av_split.specs.Boxes.{Question, Box, child_of, added, word_rules}
 use Rattle.av_split.specs.Marks.{once, side}
 use Rattle.av_split.specs.Laws.{IsTidy}
 use Rattle.av_split.proofs.GenericSplit.{Lawful, one_outside, both_out}
-use Rattle.av_split.proofs.WordSplit.{stands, added_answer, Fine, Apt, same_child, changed_child, word_law, start_fine}
+use Rattle.av_split.proofs.WordSplit.{stands, added_known, Fine, Apt, same_child, changed_child, word_law, start_fine}
 use Rattle.av_build.specs.Drafts.{name_of, child_names}
 use Rattle.av_walk.specs.Walk.{Literal, literal_known}
 use Rattle.av_walk.specs.Leaves.{asks, child_literals, literals}
@@ -93,7 +93,7 @@ pub record IsLong (k : ℕ) (b : Box) : Type 0 where
   pub long : (i : ℕ) → i < k → Each (λ (w : List ℕ). 2 ≤ length w) (child_of b i).avoid
 
 -- an open word has two entries or more
-added_long : (w : Bool) (c : Constraint) (p : List ℕ) → IsWord p → answer c p ≡ Open → AreLong c.avoid → AreLong (added w c p).avoid
+added_long : (w : Bool) (c : Constraint) (p : List ℕ) → IsWord p → known_of c p ≡ Open → AreLong c.avoid → AreLong (added w c p).avoid
 added_long true c p g o h = h
 added_long false c p g o h = λ v i. by v ((minimal_is (p ∷ c.avoid) v).0 i).member
   where
@@ -123,9 +123,9 @@ start_long k = record {
 }
 
 -- what is known of a word of a constraint
-own_answer : (w : Bool) (c : Constraint) (a : List ℕ) → IsTidy c → AreLong c.avoid → In a (words_of w c) → answer c a ≡ side w
-own_answer true c a t l i = (inside_is c a).1 (inr (a, i, contains_same a))
-own_answer false c a t l i = (outside_is c a).1 (
+own_known : (w : Bool) (c : Constraint) (a : List ℕ) → IsTidy c → AreLong c.avoid → In a (words_of w c) → known_of c a ≡ side w
+own_known true c a t l i = (inside_is c a).1 (inr (a, i, contains_same a))
+own_known false c a t l i = (outside_is c a).1 (
   λ r. elim r [
     | inl q ↦ omega (arith, l a i, q)
     | inr s ↦ t.clean s.0 a s.1 i s.2
@@ -158,21 +158,21 @@ refuted_known false k e o = let z : Open ≡ Outside = ap (turned false) (sym o)
 
 module _ (k : ℕ) where
   -- what is known of a question in a box stays
-  answer_stays : (w : Bool) (b : Box) (q p : Question) (m : Known) → IsLong k b → Apt k q → word_rules.answer b q ≡ Open → (m ≡ Open → ⊥) → word_rules.answer b p ≡ m → word_rules.answer (word_rules.settle w b q) p ≡ m
-  answer_stays w b q p m f a o n e =
+  known_stays : (w : Bool) (b : Box) (q p : Question) (m : Known) → IsLong k b → Apt k q → word_rules.known b q ≡ Open → (m ≡ Open → ⊥) → word_rules.known b p ≡ m → word_rules.known (word_rules.settle w b q) p ≡ m
+  known_stays w b q p m f a o n e =
       let c : Constraint = child_of b q.child in
-      changed_child (λ d. answer d p.word ≡ m) k b q.child p.child (added w c q.word) f.fine a.child (λ s.
-      added_answer w c q.word p.word (f.fine.fit q.child a.child) a.word o
-      ∙ ap (once w (stands w p.word q.word)) (subst (λ j. answer (child_of b j) p.word ≡ m) s e)
+      changed_child (λ d. known_of d p.word ≡ m) k b q.child p.child (added w c q.word) f.fine a.child (λ s.
+      added_known w c q.word p.word (f.fine.fit q.child a.child) a.word o
+      ∙ ap (once w (stands w p.word q.word)) (subst (λ j. known_of (child_of b j) p.word ≡ m) s e)
       ∙ once_settled w (stands w p.word q.word) m n) e
 
   -- so a refuted term stays so
-  term_stays : (w : Bool) (b : Box) (q : Question) (t : List (Literal Question)) → IsLong k b → Apt k q → word_rules.answer b q ≡ Open → Refuted (word_rules.answer b) t → Refuted (word_rules.answer (word_rules.settle w b q)) t
+  term_stays : (w : Bool) (b : Box) (q : Question) (t : List (Literal Question)) → IsLong k b → Apt k q → word_rules.known b q ≡ Open → Refuted (word_rules.known b) t → Refuted (word_rules.known (word_rules.settle w b q)) t
   term_stays w b q t f a o e =
-      let r = one_outside (literal_known (word_rules.answer b)) t e in
+      let r = one_outside (literal_known (word_rules.known b)) t e in
       let l : Literal Question = r.0 in
-      all_is_outside (literal_known (word_rules.answer (word_rules.settle w b q))) t l r.1
-      (ap (turned l.required) (answer_stays w b q l.question (word_rules.answer b l.question) f a o (refuted_known l.required (word_rules.answer b l.question) r.2) refl) ∙ r.2)
+      all_is_outside (literal_known (word_rules.known (word_rules.settle w b q))) t l r.1
+      (ap (turned l.required) (known_stays w b q l.question (word_rules.known b l.question) f a o (refuted_known l.required (word_rules.known b l.question) r.2) refl) ∙ r.2)
 
 -- a constraint avoids a word within the word, or requires one around it
 abbrev pub HasMark : Bool → List ℕ → Constraint → Type 0
@@ -204,7 +204,7 @@ other_stands true q a = refl
 other_stands false q a = refl
 
 -- of a word around an open one it isn't known that it is contained, and of one within it not that it is avoided
-unless_open : (w : Bool) (c : Constraint) (q a : List ℕ) → IsWord q → answer c q ≡ Open → stands w q a ≡ true → answer c a ≡ side w → ⊥
+unless_open : (w : Bool) (c : Constraint) (q a : List ℕ) → IsWord q → known_of c q ≡ Open → stands w q a ≡ true → known_of c a ≡ side w → ⊥
 unless_open true c q a g o s e =
     let h = contains_from a q s in
     elim ((inside_is c a).0 e) [
@@ -225,25 +225,25 @@ once_told false Open n = refl
 
 module _ (k : ℕ) (first : Sign) where
   -- a box below one part is refuted in the other
-  marked_refuted : (w : Bool) (b x : Box) (q : Question) → IsLong k b → IsLong k x → Apt k q → word_rules.answer b q ≡ Open → Marks w q x → Refuted (word_rules.answer (word_rules.settle (not w) b q)) (box_term first x)
+  marked_refuted : (w : Bool) (b x : Box) (q : Question) → IsLong k b → IsLong k x → Apt k q → word_rules.known b q ≡ Open → Marks w q x → Refuted (word_rules.known (word_rules.settle (not w) b q)) (box_term first x)
   marked_refuted w b x q f g a o m =
       let c : Constraint = child_of b q.child in
       let n = g.fine.count in
       let h = a.child in
-      let told : word_rules.answer (word_rules.settle (not w) b q) (record { child = q.child; word = m.0 }) ≡ side (not w) =
-      ap (λ d. answer d m.0) (same_child b q.child (added (not w) c q.word) k f.fine a.child)
-      ∙ added_answer (not w) c q.word m.0 (f.fine.fit q.child a.child) a.word o
-      ∙ ap (λ t. once (not w) t (answer c m.0)) (other_stands w q.word m.0 ∙ m.2)
-      ∙ once_told w (answer c m.0) (unless_open w c q.word m.0 a.word o m.2) in
-      all_is_outside (literal_known (word_rules.answer (word_rules.settle (not w) b q))) (box_term first x) (asks w q.child m.0) (box_asked w first x q.child (omega arith) m.0 m.1)
+      let told : word_rules.known (word_rules.settle (not w) b q) (record { child = q.child; word = m.0 }) ≡ side (not w) =
+      ap (λ d. known_of d m.0) (same_child b q.child (added (not w) c q.word) k f.fine a.child)
+      ∙ added_known (not w) c q.word m.0 (f.fine.fit q.child a.child) a.word o
+      ∙ ap (λ t. once (not w) t (known_of c m.0)) (other_stands w q.word m.0 ∙ m.2)
+      ∙ once_told w (known_of c m.0) (unless_open w c q.word m.0 a.word o m.2) in
+      all_is_outside (literal_known (word_rules.known (word_rules.settle (not w) b q))) (box_term first x) (asks w q.child m.0) (box_asked w first x q.child (omega arith) m.0 m.1)
       (ap (turned w) told ∙ other_side w)
 
   -- so the boxes and their terms are such
   pub word_tell : Telling word_rules (IsLong k) (Apt k) (box_term first) Marks
   word_tell = record {
-    own = λ b f. all_is_inside (literal_known (word_rules.answer b)) (box_term first b) (box_each (λ l. literal_known (word_rules.answer b) l ≡ Inside) first b (λ w j h a i.
+    own = λ b f. all_is_inside (literal_known (word_rules.known b)) (box_term first b) (box_each (λ l. literal_known (word_rules.known b) l ≡ Inside) first b (λ w j h a i.
         let g = f.fine.count in
-        ap (turned w) (own_answer w (child_of b j) a (f.fine.tidy j (omega arith)) (f.long j (omega arith)) i) ∙ own_side w));
+        ap (turned w) (own_known w (child_of b j) a (f.fine.tidy j (omega arith)) (f.long j (omega arith)) i) ∙ own_side w));
     stays = λ w b x q f g a o e. term_stays k w b q (box_term first x) f a o e;
     marks = λ w b q f a o. subst (HasMark w q.word) (sym (same_child b q.child (added w (child_of b q.child) q.word) k f.fine a.child)) (mark_made w (child_of b q.child) q.word (f.fine.fit q.child a.child) a.word);
     keeps = λ w s b q p f a x o m.

@@ -3,7 +3,7 @@ use Rattle.std.specs.Prelude.{◌≡◌, refl, ℕ, List, [], ◌∷◌, Some, N
 use Rattle.av_perm.specs.Lists.{all_lists, choices}
 use Rattle.av_perm.specs.Contain.{contains}
 use Rattle.av_embed.specs.Embed.{embeddings}
-use Rattle.av_name.specs.Constraints.{answer}
+use Rattle.av_name.specs.Constraints.{known_of}
 use Rattle.av_sys.specs.declared.names.Sign.{Sign}
 use Rattle.av_sys.specs.declared.names.Sign.TheVariants.{C, P, M}
 use Rattle.av_sys.specs.declared.terms.Term.{Term}
@@ -59,7 +59,7 @@ claim_of_132 S = record { basis = (1 ∷ 3 ∷ 2 ∷ []) ∷ []; require = None;
 
 -- the system of the class is right
 pub yes_for_132 : verdict_up_to 15 (claim_of_132 avoiders_of_132) [] ≡ verdicts.Yes
-unfolding answer embeddings all_lists choices contains drafts grow_from marks_within verdict_up_to
+unfolding known_of embeddings all_lists choices contains drafts grow_from marks_within verdict_up_to
 yes_for_132 = refl
 
 -- a skew sum of words of two equations
@@ -80,32 +80,32 @@ with_terms terms = record {
 
 -- without the sums, which are words
 pub sums_are_lost : verdict_up_to 15 (claim_of_132 (with_terms (Point ∷ minus 3 0 ∷ []))) [] ≡ verdicts.Cell 0 (1 ∷ 2 ∷ []) 0 Lost
-unfolding answer embeddings all_lists choices contains drafts grow_from marks_within verdict_up_to
+unfolding known_of embeddings all_lists choices contains drafts grow_from marks_within verdict_up_to
 sums_are_lost = refl
 
 -- with the sums twice
 pub sums_come_twice : verdict_up_to 15 (claim_of_132 (with_terms (Point ∷ plus 1 2 ∷ plus 1 2 ∷ minus 3 0 ∷ []))) [] ≡ verdicts.Cell 0 (1 ∷ 2 ∷ []) 0 Twice
-unfolding answer embeddings all_lists choices contains drafts grow_from marks_within verdict_up_to
+unfolding known_of embeddings all_lists choices contains drafts grow_from marks_within verdict_up_to
 sums_come_twice = refl
 
 -- with a second block that may have a descent
 pub sums_are_too_many : verdict_up_to 15 (claim_of_132 (with_terms (Point ∷ plus 1 0 ∷ minus 3 0 ∷ []))) [] ≡ verdicts.Cell 0 (1 ∷ 2 ∷ []) 1 Extra
-unfolding answer embeddings all_lists choices contains drafts grow_from marks_within verdict_up_to
+unfolding known_of embeddings all_lists choices contains drafts grow_from marks_within verdict_up_to
 sums_are_too_many = refl
 
 -- without the point
 pub point_is_lost : verdict_up_to 15 (claim_of_132 (with_terms (plus 1 2 ∷ minus 3 0 ∷ []))) [] ≡ verdicts.Point 0
-unfolding answer embeddings all_lists choices contains drafts grow_from marks_within verdict_up_to
+unfolding known_of embeddings all_lists choices contains drafts grow_from marks_within verdict_up_to
 point_is_lost = refl
 
 -- with a first block that may be a sum
 pub sign_is_wrong : verdict_up_to 15 (claim_of_132 (with_terms (Point ∷ plus 0 2 ∷ minus 3 0 ∷ []))) [] ≡ verdicts.Root 0 (1 ∷ 2 ∷ [])
-unfolding answer embeddings all_lists choices contains drafts grow_from marks_within verdict_up_to
+unfolding known_of embeddings all_lists choices contains drafts grow_from marks_within verdict_up_to
 sign_is_wrong = refl
 
 -- for another class
 pub name_is_wrong : verdict_up_to 15 (record { basis = (1 ∷ 2 ∷ 3 ∷ []) ∷ []; require = None; system = avoiders_of_132 }) [] ≡ verdicts.Name 0
-unfolding answer embeddings all_lists choices contains drafts grow_from marks_within verdict_up_to
+unfolding known_of embeddings all_lists choices contains drafts grow_from marks_within verdict_up_to
 name_is_wrong = refl
 
 -- the claim of a system for the words that avoid 21 and contain 123
@@ -114,16 +114,16 @@ claim_of_increasing S = record { basis = (2 ∷ 1 ∷ []) ∷ []; require = Some
 
 -- the canonical system is right, and so is the lean one
 pub yes_for_increasing : verdict_up_to 15 (claim_of_increasing increasing) [] ≡ verdicts.Yes
-unfolding answer embeddings all_lists choices contains drafts grow_from marks_within verdict_up_to
+unfolding known_of embeddings all_lists choices contains drafts grow_from marks_within verdict_up_to
 yes_for_increasing = refl
 
 pub yes_for_lean_increasing : verdict_up_to 15 (claim_of_increasing lean_increasing) [] ≡ verdicts.Yes
-unfolding answer embeddings all_lists choices contains drafts grow_from marks_within verdict_up_to
+unfolding known_of embeddings all_lists choices contains drafts grow_from marks_within verdict_up_to
 yes_for_lean_increasing = refl
 
 -- where the systems that are asked for are too large nothing is known of a term that was left out
 pub large_for_lean_increasing : verdict_up_to 0 (claim_of_increasing lean_increasing) [] ≡ verdicts.Cell 0 (1 ∷ 2 ∷ []) 2 Large
-unfolding answer embeddings all_lists choices contains drafts grow_from marks_within verdict_up_to
+unfolding known_of embeddings all_lists choices contains drafts grow_from marks_within verdict_up_to
 large_for_lean_increasing = refl
 
 -- where no word is in the class one equation without terms is right, and nothing else

@@ -13,9 +13,9 @@ use Rattle.av_perm.proofs.TopWords.{top_maximal}
 use Rattle.av_sys.specs.declared.names.Constraint.{Constraint}
 use Rattle.av_sys.specs.Names.{Meets}
 use Rattle.av_name.specs.declared.constraints.Known.TheVariants.{Open}
-use Rattle.av_name.specs.Constraints.{is_required, is_avoided, known_by, answer, add_avoid, add_require, IsClean, once_avoided, once_required}
+use Rattle.av_name.specs.Constraints.{is_required, is_avoided, known_by, known_of, add_avoid, add_require, IsClean, once_avoided, once_required}
 use Rattle.av_name.specs.Laws.{IsRequired, GrowthLaw}
-use Rattle.av_name.proofs.Answered.{required_from, required_to, avoided_from, avoided_to, open_is}
+use Rattle.av_name.proofs.KnownPatterns.{required_from, required_to, avoided_from, avoided_to, open_is}
 
 -- a word joins words
 put_word : (p : List ℕ) (ws : List (List ℕ)) → IsWord p → Each IsWord ws → Each IsWord (p ∷ ws)
@@ -45,7 +45,7 @@ require_old : (c : Constraint) (p r : List ℕ) → In r (add_require c p).requi
 require_old c p r i = ((maximal_is (p ∷ c.require) r).0 i).member
 
 -- an open pattern has two entries or more, so the word 1 isn't among the maximal words beside it
-pub required_top : (c : Constraint) (p : List ℕ) → IsWord p → answer c p ≡ Open → top (p ∷ c.require) ≡ maximal (p ∷ c.require)
+pub required_top : (c : Constraint) (p : List ℕ) → IsWord p → known_of c p ≡ Open → top (p ∷ c.require) ≡ maximal (p ∷ c.require)
 required_top c p g o =
     let no_one : length p ≡ 1 → ⊥ = λ e. (open_is c p o).0 (inl e) in
     top_maximal (p ∷ c.require) p (inl refl) (omega (arith, g.filled, no_one))
@@ -91,9 +91,9 @@ required_more c p w f g = same_tests (is_required (add_require c p) w) (contains
     still (inr r) = let m = require_has c p r.0 f g (inr r.1) in inr (m.0, m.1, contains_trans m.0 r.0 w m.2 r.2)
 
 -- what is known of a word once the pattern is avoided
-pub answer_avoid : (c : Constraint) (p w : List ℕ) → Each IsWord c.avoid → IsWord p → answer (add_avoid c p) w ≡ once_avoided (contains w p) (answer c w)
-unfolding answer
-answer_avoid c p w f g = ap (known_by (is_required c w)) (avoided_more c p w f g) ∙ by (is_required c w) (is_avoided c w) (contains w p)
+pub known_of_avoid : (c : Constraint) (p w : List ℕ) → Each IsWord c.avoid → IsWord p → known_of (add_avoid c p) w ≡ once_avoided (contains w p) (known_of c w)
+unfolding known_of
+known_of_avoid c p w f g = ap (known_by (is_required c w)) (avoided_more c p w f g) ∙ by (is_required c w) (is_avoided c w) (contains w p)
   where
     by : (x y b : Bool) → known_by x (b || y) ≡ once_avoided b (known_by x y)
     by true y true = refl
@@ -104,10 +104,10 @@ answer_avoid c p w f g = ap (known_by (is_required c w)) (avoided_more c p w f g
     by false false false = refl
 
 -- what is known of a word once the pattern is required, if nothing was known of the pattern
-pub answer_require : (c : Constraint) (p w : List ℕ) → Each IsWord c.require → IsWord p → answer c p ≡ Open
-    → answer (add_require c p) w ≡ once_required (contains p w) (answer c w)
-unfolding answer
-answer_require c p w f g o =
+pub known_of_require : (c : Constraint) (p w : List ℕ) → Each IsWord c.require → IsWord p → known_of c p ≡ Open
+    → known_of (add_require c p) w ≡ once_required (contains p w) (known_of c w)
+unfolding known_of
+known_of_require c p w f g o =
     ap (λ x. known_by x (is_avoided c w)) (required_more c p w f g)
     ∙ by (is_required c w) (is_avoided c w) (contains p w) (λ e k.
     let h = avoided_from c w e in (open_is c p o).1 (h.0, h.1, contains_trans p w h.0 (contains_from p w k) h.2))
@@ -129,7 +129,7 @@ avoid_fit c p f g = record {
 }
 
 -- and so does requiring it, where nothing was known of it
-pub require_fit : (c : Constraint) (p : List ℕ) → IsFit c → IsWord p → answer c p ≡ Open → IsFit (add_require c p)
+pub require_fit : (c : Constraint) (p : List ℕ) → IsFit c → IsWord p → known_of c p ≡ Open → IsFit (add_require c p)
 require_fit c p f g o = record {
   avoid = f.avoid;
   require = λ w i. put_word p c.require g f.require w (require_old c p w i);
@@ -171,7 +171,7 @@ meets_require σ c p f g = (
     back h w (inr j) = h.0.contains w j
 
 -- no required word contains an avoided one, once the pattern is avoided or required
-pub clean_avoid : (c : Constraint) (p : List ℕ) → answer c p ≡ Open → IsClean c → IsClean (add_avoid c p)
+pub clean_avoid : (c : Constraint) (p : List ℕ) → known_of c p ≡ Open → IsClean c → IsClean (add_avoid c p)
 clean_avoid c p o t r a i j k = by (avoid_old c p a j)
   where
     by : In a (p ∷ c.avoid) → ⊥
@@ -179,7 +179,7 @@ clean_avoid c p o t r a i j k = by (avoid_old c p a j)
     by (inr m) = t r a i m k
 
 -- the same for the required words
-pub clean_require : (c : Constraint) (p : List ℕ) → answer c p ≡ Open → IsClean c → IsClean (add_require c p)
+pub clean_require : (c : Constraint) (p : List ℕ) → known_of c p ≡ Open → IsClean c → IsClean (add_require c p)
 clean_require c p o t r a i j k = by (require_old c p r i)
   where
     by : In r (p ∷ c.require) → ⊥

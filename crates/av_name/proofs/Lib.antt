@@ -1,4 +1,4 @@
-pub mod Answered
+pub mod KnownPatterns
 pub mod Growth
 pub mod TurnedTests
 pub mod AvoidedWords

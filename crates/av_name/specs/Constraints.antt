@@ -28,8 +28,8 @@ known_by false true = Outside
 known_by false false = Open
 
 -- what is known of the pattern in the region of the constraint
-unfoldable pub answer : Constraint → List ℕ → Known
-answer c p = known_by (is_required c p) (is_avoided c p)
+unfoldable pub known_of : Constraint → List ℕ → Known
+known_of c p = known_by (is_required c p) (is_avoided c p)
 
 -- the pattern joins the avoided words
 abbrev pub add_avoid : Constraint → List ℕ → Constraint

@@ -6,7 +6,7 @@ use Rattle.av_perm.specs.Relations.{IsWord, AreWords, Contains, Avoids}
 use Rattle.av_sys.specs.declared.names.Constraint.{Constraint}
 use Rattle.av_sys.specs.Names.{InRegion}
 use Rattle.av_name.specs.declared.constraints.Known.TheVariants.{Inside, Outside, Open}
-use Rattle.av_name.specs.Constraints.{free, answer, add_avoid, add_require, IsClean}
+use Rattle.av_name.specs.Constraints.{free, known_of, add_avoid, add_require, IsClean}
 
 -- the pattern is the word 1, or some required word contains it
 abbrev pub IsRequired : Constraint → List ℕ → Type 0
@@ -16,16 +16,16 @@ IsRequired c p = (length p ≡ 1) ⊎ ((r : List ℕ) × In r c.require × Conta
 abbrev pub IsAvoided : Constraint → List ℕ → Type 0
 IsAvoided c p = (2 ≤ length p) × ((a : List ℕ) × In a c.avoid × Contains p a)
 
--- when each answer of a constraint to a pattern comes, and what it says of the region
-pub record Answers (c : Constraint) (p : List ℕ) : Type 0 where
-  pub inside : (answer c p ≡ Inside) ↔ IsRequired c p
-  pub outside : IsClean c → (answer c p ≡ Outside) ↔ IsAvoided c p
-  pub inside_says : answer c p ≡ Inside → (σ : List ℕ) → InRegion c σ → Contains σ p
-  pub outside_says : answer c p ≡ Outside → (σ : List ℕ) → InRegion c σ → Avoids σ p
+-- what the constraint knows of the pattern: when it is inside or outside, and what that says of the region
+pub record KnowsOf (c : Constraint) (p : List ℕ) : Type 0 where
+  pub inside : (known_of c p ≡ Inside) ↔ IsRequired c p
+  pub outside : IsClean c → (known_of c p ≡ Outside) ↔ IsAvoided c p
+  pub inside_says : known_of c p ≡ Inside → (σ : List ℕ) → InRegion c σ → Contains σ p
+  pub outside_says : known_of c p ≡ Outside → (σ : List ℕ) → InRegion c σ → Avoids σ p
 
 -- so of every constraint and word
-abbrev pub AnswerLaw : Type 0
-AnswerLaw = (c : Constraint) (p : List ℕ) → IsWord p → Answers c p
+abbrev pub KnownLaw : Type 0
+KnownLaw = (c : Constraint) (p : List ℕ) → IsWord p → KnowsOf c p
 
 -- the free constraint asks nothing of a word
 abbrev pub FreeLaw : Type 0
@@ -46,4 +46,4 @@ pub record Grows (c : Constraint) (p : List ℕ) : Type 0 where
 
 -- so of every constraint of words and pattern of which nothing is known
 abbrev pub GrowthLaw : Type 0
-GrowthLaw = (c : Constraint) (p : List ℕ) → IsOfWords c → IsWord p → answer c p ≡ Open → Grows c p
+GrowthLaw = (c : Constraint) (p : List ℕ) → IsOfWords c → IsWord p → known_of c p ≡ Open → Grows c p

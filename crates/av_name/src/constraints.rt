@@ -2,7 +2,7 @@
 ghost use Rattle.std.specs.Prelude.{◌≡◌, [], ◌∷◌, ◌++◌, IfOk};
 ghost use Rattle.std.specs.List.{list_any};
 ghost use Rattle.av_perm.specs.Contain.{contains};
-ghost use Rattle.av_name.specs.Constraints.{free, answer, is_required, is_avoided, add_avoid, add_require};
+ghost use Rattle.av_name.specs.Constraints.{free, known_of, is_required, is_avoided, add_avoid, add_require};
 
 use av_match::{contains, maximal, minimal};
 use av_perm::{Memory, Perm, Words};
@@ -33,9 +33,9 @@ pub fn free(alloc: Global) -> Constraint
 /// Whether the words of the constraint's region contain the pattern. `Inside` exactly where it is the word 1 or some required
 /// word contains it. Else `Outside` exactly where it contains some avoided word. Where no required word contains an avoided
 /// one, these are the patterns of at least two entries that contain an avoided word.
-#[tactic(auto, unfolding(crate::specs::Constraints::answer))]
-pub fn answer(c: &Constraint, p: &Perm) -> Known
-    ensures { result ≡ answer c.now p.now }
+#[tactic(auto, unfolding(crate::specs::Constraints::known_of))]
+pub fn known_of(c: &Constraint, p: &Perm) -> Known
+    ensures { result ≡ known_of c.now p.now }
 {
     if is_required(c, p) {
         Known::Inside
@@ -70,7 +70,7 @@ fn is_within_some(p: &Perm, words: &Words) -> bool
 /// The constraint that avoids the pattern too, of which nothing is known: it joins the avoided words, of which the minimal
 /// ones are kept, in shortlex order. The region is that of the words that avoid the pattern.
 pub fn add_avoid(alloc: Global, c: &Constraint, p: &Perm) -> Result<Constraint, Memory>
-    requires { answer c.now p.now ≡ Known.Open }
+    requires { known_of c.now p.now ≡ Known.Open }
     ensures { IfOk result (λ d. d ≡ add_avoid c.now p.now) }
 {
     Ok(Constraint {
@@ -82,7 +82,7 @@ pub fn add_avoid(alloc: Global, c: &Constraint, p: &Perm) -> Result<Constraint, 
 /// The constraint that requires the pattern too, of which nothing is known: it joins the required words, of which the
 /// maximal ones are kept, in shortlex order. The region is that of the words that contain the pattern.
 pub fn add_require(alloc: Global, c: &Constraint, p: &Perm) -> Result<Constraint, Memory>
-    requires { answer c.now p.now ≡ Known.Open }
+    requires { known_of c.now p.now ≡ Known.Open }
     ensures { IfOk result (λ d. d ≡ add_require c.now p.now) }
 {
     // Its length tells that it has entries.

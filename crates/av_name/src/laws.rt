@@ -1,11 +1,11 @@
 // The laws of constraints.
-ghost use Rattle.av_name.specs.Laws.{AnswerLaw, FreeLaw, GrowthLaw};
+ghost use Rattle.av_name.specs.Laws.{KnownLaw, FreeLaw, GrowthLaw};
 
-/// What is answered of a pattern is true of each word of the region: `Inside` says that each contains it, and `Outside` that none
+/// What is known of a pattern is true of each word of the region: `Inside` says that each contains it, and `Outside` that none
 /// does. `Inside` comes exactly for the word 1 and for what a required word contains. Where no required word contains an
 /// avoided one, `Outside` comes exactly for a pattern of at least two entries that contains an avoided word.
-pub fn answer_law()
-    ensures { AnswerLaw }
+pub fn known_law()
+    ensures { KnownLaw }
 {}
 
 /// The free constraint has all words for its region.

@@ -7,5 +7,5 @@ mod names;
 #[cfg(test)]
 mod tests;
 
-pub use constraints::{Known, add_avoid, add_require, answer, free};
+pub use constraints::{Known, add_avoid, add_require, free, known_of};
 pub use names::{satisfies, satisfies_besides};

@@ -1,5 +1,5 @@
-// Answers that are known.
-use crate::{Known, add_avoid, add_require, answer, free, satisfies};
+// What is known of some patterns.
+use crate::{Known, add_avoid, add_require, free, known_of, satisfies};
 use av_perm::{Memory, Perm, Words};
 use av_sys::{Constraint, Name, Sign};
 use std::alloc::Global;
@@ -23,25 +23,25 @@ fn nothing_is_known_at_first(rt: HostRuntime) {
     let all = free(rt.alloc());
     assert_eq!(rt; all.avoid.len(), 0);
     assert_eq!(rt; all.require.len(), 0);
-    assert!(rt; answer(&all, &Perm::one()) == Known::Inside);
-    assert!(rt; answer(&all, &word(&[2, 1])) == Known::Open);
+    assert!(rt; known_of(&all, &Perm::one()) == Known::Inside);
+    assert!(rt; known_of(&all, &word(&[2, 1])) == Known::Open);
 }
 
 #[test]
-fn answers_of_a_constraint(rt: HostRuntime) -> Result<(), Memory> {
+fn patterns_of_a_constraint(rt: HostRuntime) -> Result<(), Memory> {
     let c = Constraint {
         avoid: words(rt.alloc(), &[&[2, 1, 4, 3]])?,
         require: words(rt.alloc(), &[&[2, 1]])?,
     };
-    assert!(rt; answer(&c, &word(&[2, 1])) == Known::Inside);
-    assert!(rt; answer(&c, &word(&[3, 2, 5, 4, 1])) == Known::Outside);
-    assert!(rt; answer(&c, &word(&[1, 2])) == Known::Open);
+    assert!(rt; known_of(&c, &word(&[2, 1])) == Known::Inside);
+    assert!(rt; known_of(&c, &word(&[3, 2, 5, 4, 1])) == Known::Outside);
+    assert!(rt; known_of(&c, &word(&[1, 2])) == Known::Open);
     Ok(())
 }
 
 // The constraint that avoids the pattern too, or an equal one where something is known of it.
 fn avoiding(alloc: Global, c: &Constraint, p: &Perm) -> Result<Constraint, Memory> {
-    match answer(c, p) {
+    match known_of(c, p) {
         Known::Open => add_avoid(alloc, c, p),
         _ => c.copy(alloc),
     }
@@ -49,7 +49,7 @@ fn avoiding(alloc: Global, c: &Constraint, p: &Perm) -> Result<Constraint, Memor
 
 // The constraint that requires the pattern too, or an equal one where something is known of it.
 fn requiring(alloc: Global, c: &Constraint, p: &Perm) -> Result<Constraint, Memory> {
-    match answer(c, p) {
+    match known_of(c, p) {
         Known::Open => add_require(alloc, c, p),
         _ => c.copy(alloc),
     }

@@ -16,7 +16,7 @@ use Rattle.av_split.proofs.AdviceWalks.{told_start}
 
 module _ (b : Box) (π : List ℕ) (A R : List (List ℕ)) where
   -- a broken avoided word
-  pub first_broken : IsBroken b None (map (demand π false) A) → demands_known (word_rules.answer b) (demands π A R) ≡ Outside
+  pub first_broken : IsBroken b None (map (demand π false) A) → demands_known (word_rules.known b) (demands π A R) ≡ Outside
   first_broken h = h (demands π A R) (map (demand π true) R) (told_start b (demands π A R))
 
   -- the avoided words gone through
@@ -25,7 +25,7 @@ module _ (b : Box) (π : List ℕ) (A R : List (List ℕ)) where
       (h (demands π A R) (map (demand π true) R) (told_start b (demands π A R)))
 
   -- a broken required one
-  pub second_broken : (mid : Option Question) → Gathers b None (map (demand π false) A) mid [] → IsBroken b mid (map (demand π true) R) → demands_known (word_rules.answer b) (demands π A R) ≡ Outside
+  pub second_broken : (mid : Option Question) → Gathers b None (map (demand π false) A) mid [] → IsBroken b mid (map (demand π true) R) → demands_known (word_rules.known b) (demands π A R) ≡ Outside
   second_broken mid h k = k (demands π A R) [] (half mid h)
 
   -- all gone through
@@ -40,17 +40,17 @@ module _ (b : Box) (π : List ℕ) (A R : List (List ℕ)) where
   or_nothing None = refl
   or_nothing (Some q) = refl
 
-  pub all_known : (mid new : Option Question) → Gathers b None (map (demand π false) A) mid [] → Gathers b mid (map (demand π true) R) new [] → demands_known (word_rules.answer b) (demands π A R) ≡ known_so new
+  pub all_known : (mid new : Option Question) → Gathers b None (map (demand π false) A) mid [] → Gathers b mid (map (demand π true) R) new [] → demands_known (word_rules.known b) (demands π A R) ≡ known_so new
   all_known mid new h k = (whole mid new h k).known ∙ both_nothing new
 
-  pub all_next : (mid new : Option Question) → Gathers b None (map (demand π false) A) mid [] → Gathers b mid (map (demand π true) R) new [] → next_question (word_rules.answer b) (demands π A R) ≡ new
+  pub all_next : (mid new : Option Question) → Gathers b None (map (demand π false) A) mid [] → Gathers b mid (map (demand π true) R) new [] → next_question (word_rules.known b) (demands π A R) ≡ new
   all_next mid new h k = (whole mid new h k).first ∙ or_nothing new
 
   -- the question is one of the root's children
   pub may_ask : Each IsWord A → Each IsWord R → length π ≤ MAX_ROOT_LENGTH → (mid : Option Question) (new : Option Asked) → Gathers b None (map (demand π false) A) mid [] → Gathers b mid (map (demand π true) R) (question_asked new) [] → MayAsk new
   may_ask ga gr l mid None h k = tt
   may_ask ga gr l mid (Some a) h k =
-      let n = next_finds (word_rules.answer b) (demands π A R) (all_known mid (Some (word_question a.child a.word)) h k) in
+      let n = next_finds (word_rules.known b) (demands π A R) (all_known mid (Some (word_question a.child a.word)) h k) in
       let s : n.0 ≡ word_question a.child a.word = some_question n.0 (word_question a.child a.word) (sym n.1 ∙ all_next mid (Some (word_question a.child a.word)) h k) in
       let c = (subst (Apt (length π)) s (demands_apt π A R ga gr n.0 n.2.1)).child in
       omega (arith, c, l)

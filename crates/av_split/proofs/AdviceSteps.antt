@@ -8,7 +8,7 @@ use Rattle.std.proofs.Common.{slice_get}
 use Rattle.av_sys.specs.declared.names.Constraint.{Constraint}
 use Rattle.av_name.specs.declared.constraints.Known.{Known}
 use Rattle.av_name.specs.declared.constraints.Known.TheVariants.{Inside, Outside, Open}
-use Rattle.av_name.specs.Constraints.{free, answer}
+use Rattle.av_name.specs.Constraints.{free, known_of}
 use Rattle.av_split.specs.Split.{both, all_of, at_open, first_open}
 use Rattle.av_split.specs.Boxes.{Question, Box, word_rules, ask}
 use Rattle.av_split.specs.declared.advising.WordStep.{WordStep}
@@ -52,29 +52,29 @@ one_known f q k e = ap (λ x. both x Inside) e ∙ by k
     by Open = refl
 
 -- no place goes to the child
-pub ask_none : (b : Box) (i : ℕ) (xs : List ℕ) → xs ≡ [] → IsWholeStep steps.Holds (all_of (word_rules.answer b) (ask i xs)) (first_open (word_rules.answer b) (λ (q : Question). Some q) (ask i xs))
+pub ask_none : (b : Box) (i : ℕ) (xs : List ℕ) → xs ≡ [] → IsWholeStep steps.Holds (all_of (word_rules.known b) (ask i xs)) (first_open (word_rules.known b) (λ (q : Question). Some q) (ask i xs))
 ask_none b i [] e = (refl, refl)
 ask_none b i (x ∷ xs) e = absurd (cc)
 
 -- what its constraint tells of the pattern of the places
-pub ask_inside : (b : Box) (c : Constraint) (i : ℕ) (xs p : List ℕ) → slice_get b i ≡ Some c → (xs ≡ [] → ⊥) → p ≡ pattern_of xs → answer c p ≡ Inside
-    → IsWholeStep steps.Holds (all_of (word_rules.answer b) (ask i xs)) (first_open (word_rules.answer b) (λ (q : Question). Some q) (ask i xs))
+pub ask_inside : (b : Box) (c : Constraint) (i : ℕ) (xs p : List ℕ) → slice_get b i ≡ Some c → (xs ≡ [] → ⊥) → p ≡ pattern_of xs → known_of c p ≡ Inside
+    → IsWholeStep steps.Holds (all_of (word_rules.known b) (ask i xs)) (first_open (word_rules.known b) (λ (q : Question). Some q) (ask i xs))
 ask_inside b c i [] p g n e h = absurd (n refl)
 ask_inside b c i (x ∷ xs) p g n e h =
-    let here : word_rules.answer b (word_question i (pattern_of (x ∷ xs))) ≡ Inside = ap₂ (λ d w. answer d w) (get_or_from_slice_get b i c free g) (sym e) ∙ h in
-    (one_known (word_rules.answer b) (word_question i (pattern_of (x ∷ xs))) Inside here, ap (λ k. at_open k (Some (word_question i (pattern_of (x ∷ xs)))) None) here)
+    let here : word_rules.known b (word_question i (pattern_of (x ∷ xs))) ≡ Inside = ap₂ (λ d w. known_of d w) (get_or_from_slice_get b i c free g) (sym e) ∙ h in
+    (one_known (word_rules.known b) (word_question i (pattern_of (x ∷ xs))) Inside here, ap (λ k. at_open k (Some (word_question i (pattern_of (x ∷ xs)))) None) here)
 
-pub ask_outside : (b : Box) (c : Constraint) (i : ℕ) (xs p : List ℕ) → slice_get b i ≡ Some c → (xs ≡ [] → ⊥) → p ≡ pattern_of xs → answer c p ≡ Outside
-    → IsWholeStep steps.Fails (all_of (word_rules.answer b) (ask i xs)) (first_open (word_rules.answer b) (λ (q : Question). Some q) (ask i xs))
+pub ask_outside : (b : Box) (c : Constraint) (i : ℕ) (xs p : List ℕ) → slice_get b i ≡ Some c → (xs ≡ [] → ⊥) → p ≡ pattern_of xs → known_of c p ≡ Outside
+    → IsWholeStep steps.Fails (all_of (word_rules.known b) (ask i xs)) (first_open (word_rules.known b) (λ (q : Question). Some q) (ask i xs))
 ask_outside b c i [] p g n e h = absurd (n refl)
-ask_outside b c i (x ∷ xs) p g n e h = one_known (word_rules.answer b) (word_question i (pattern_of (x ∷ xs))) Outside (ap₂ (λ d w. answer d w) (get_or_from_slice_get b i c free g) (sym e) ∙ h)
+ask_outside b c i (x ∷ xs) p g n e h = one_known (word_rules.known b) (word_question i (pattern_of (x ∷ xs))) Outside (ap₂ (λ d w. known_of d w) (get_or_from_slice_get b i c free g) (sym e) ∙ h)
 
-pub ask_open : (b : Box) (c : Constraint) (i : ℕ) (xs p : List ℕ) → slice_get b i ≡ Some c → (xs ≡ [] → ⊥) → p ≡ pattern_of xs → answer c p ≡ Open
-    → IsWholeStep (steps.Asks i p) (all_of (word_rules.answer b) (ask i xs)) (first_open (word_rules.answer b) (λ (q : Question). Some q) (ask i xs))
+pub ask_open : (b : Box) (c : Constraint) (i : ℕ) (xs p : List ℕ) → slice_get b i ≡ Some c → (xs ≡ [] → ⊥) → p ≡ pattern_of xs → known_of c p ≡ Open
+    → IsWholeStep (steps.Asks i p) (all_of (word_rules.known b) (ask i xs)) (first_open (word_rules.known b) (λ (q : Question). Some q) (ask i xs))
 ask_open b c i [] p g n e h = absurd (n refl)
 ask_open b c i (x ∷ xs) p g n e h =
-    let here : word_rules.answer b (word_question i (pattern_of (x ∷ xs))) ≡ Open = ap₂ (λ d w. answer d w) (get_or_from_slice_get b i c free g) (sym e) ∙ h in (
-      one_known (word_rules.answer b) (word_question i (pattern_of (x ∷ xs))) Open here,
+    let here : word_rules.known b (word_question i (pattern_of (x ∷ xs))) ≡ Open = ap₂ (λ d w. known_of d w) (get_or_from_slice_get b i c free g) (sym e) ∙ h in (
+      one_known (word_rules.known b) (word_question i (pattern_of (x ∷ xs))) Open here,
       ap (λ k. at_open k (Some (word_question i (pattern_of (x ∷ xs)))) None) here ∙ ap (λ w. Some (word_question i w)) (sym e),
     )
 

@@ -31,22 +31,22 @@ word_turned false (steps.Asks child word) k o s = (ap (turned false) s.0, s.1)
 pub told_start : (b : Box) (ds : List (Demand Question)) → Told b None ds ds
 told_start b ds = record { known = refl; first = refl }
 
-so : (b : Box) (found : Option Question) (xs rest : List (Demand Question)) → Told b found xs rest → AllSo (demand_known (word_rules.answer b)) (demand_question b) found xs rest
+so : (b : Box) (found : Option Question) (xs rest : List (Demand Question)) → Told b found xs rest → AllSo (demand_known (word_rules.known b)) (demand_question b) found xs rest
 so b found xs rest t = record { known = t.known; first = t.first }
 
-told : (b : Box) (found : Option Question) (xs rest : List (Demand Question)) → AllSo (demand_known (word_rules.answer b)) (demand_question b) found xs rest → Told b found xs rest
+told : (b : Box) (found : Option Question) (xs rest : List (Demand Question)) → AllSo (demand_known (word_rules.known b)) (demand_question b) found xs rest → Told b found xs rest
 told b found xs rest t = record { known = t.known; first = t.first }
 
 pub gather_start : (b : Box) (old : Option Question) (ds : List (Demand Question)) → Gathers b old ds old ds
 gather_start b old ds xs rest h = h
 
-pub gather_passed : (b : Box) (old new : Option Question) (ds es : List (Demand Question)) (d : Demand Question) → demand_known (word_rules.answer b) d ≡ Inside → Gathers b old ds new (d ∷ es) → Gathers b old ds new es
-gather_passed b old new ds es d e g xs rest h = told b new xs (es ++ rest) (all_holds (demand_known (word_rules.answer b)) (demand_question b) new xs (es ++ rest) d e (so b new xs (d ∷ es ++ rest) (g xs rest h)))
+pub gather_passed : (b : Box) (old new : Option Question) (ds es : List (Demand Question)) (d : Demand Question) → demand_known (word_rules.known b) d ≡ Inside → Gathers b old ds new (d ∷ es) → Gathers b old ds new es
+gather_passed b old new ds es d e g xs rest h = told b new xs (es ++ rest) (all_holds (demand_known (word_rules.known b)) (demand_question b) new xs (es ++ rest) d e (so b new xs (d ∷ es ++ rest) (g xs rest h)))
 
-pub gather_broken : (b : Box) (old new : Option Question) (ds es : List (Demand Question)) (d : Demand Question) → demand_known (word_rules.answer b) d ≡ Outside → Gathers b old ds new (d ∷ es) → IsBroken b old ds
-gather_broken b old new ds es d e g xs rest h = all_fails (demand_known (word_rules.answer b)) (demand_question b) new xs (es ++ rest) d e (so b new xs (d ∷ es ++ rest) (g xs rest h))
+pub gather_broken : (b : Box) (old new : Option Question) (ds es : List (Demand Question)) (d : Demand Question) → demand_known (word_rules.known b) d ≡ Outside → Gathers b old ds new (d ∷ es) → IsBroken b old ds
+gather_broken b old new ds es d e g xs rest h = all_fails (demand_known (word_rules.known b)) (demand_question b) new xs (es ++ rest) d e (so b new xs (d ∷ es ++ rest) (g xs rest h))
 
-pub gather_kept : (b : Box) (old kept new : Option Question) (ds es : List (Demand Question)) (d : Demand Question) (q : Question) → demand_known (word_rules.answer b) d ≡ Open → demand_question b d ≡ Some q → new ≡ or_first kept q
+pub gather_kept : (b : Box) (old kept new : Option Question) (ds es : List (Demand Question)) (d : Demand Question) (q : Question) → demand_known (word_rules.known b) d ≡ Open → demand_question b d ≡ Some q → new ≡ or_first kept q
     → Gathers b old ds kept (d ∷ es) → Gathers b old ds new es
 gather_kept b old kept new ds es d q e f n g xs rest h = subst (λ o. Told b o xs (es ++ rest)) (sym n)
-    (told b (or_first kept q) xs (es ++ rest) (all_asks (demand_known (word_rules.answer b)) (demand_question b) kept xs (es ++ rest) d q e f (so b kept xs (d ∷ es ++ rest) (g xs rest h))))
+    (told b (or_first kept q) xs (es ++ rest) (all_asks (demand_known (word_rules.known b)) (demand_question b) kept xs (es ++ rest) d q e f (so b kept xs (d ∷ es ++ rest) (g xs rest h))))

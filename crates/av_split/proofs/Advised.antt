@@ -8,7 +8,7 @@ use Rattle.av_sys.specs.declared.names.Constraint.{Constraint}
 use Rattle.av_sys.specs.Names.{Meets}
 use Rattle.av_name.specs.declared.constraints.Known.TheVariants.{Inside, Outside}
 use Rattle.av_name.specs.Constraints.{free}
-use Rattle.av_name.proofs.Answered.{inside_says, outside_says, free_meets}
+use Rattle.av_name.proofs.KnownPatterns.{inside_says, outside_says, free_meets}
 use Rattle.av_split.specs.Split.{demands_known, questions_of}
 use Rattle.av_split.specs.Boxes.{Box, child_of, word_rules, demands, boxes}
 use Rattle.av_split.specs.Laws.{LiesIn}
@@ -18,7 +18,7 @@ use Rattle.av_split.specs.Advice.{AdviceLaw}
 
 module _ (π : List ℕ) (A R : List (List ℕ)) (w : IsWord π) (ga : Each IsWord A) (gr : Each IsWord R) (b : Box) (αs : List (List ℕ)) (are : AreBlocks π αs) (lies : LiesIn π αs b) where
   -- what the box says of a question is true
-  says : Each (Says (word_rules.answer b) (Holds αs)) (questions_of (demands π A R))
+  says : Each (Says (word_rules.known b) (Holds αs)) (questions_of (demands π A R))
   says q i =
       let a = demands_apt π A R ga gr q i in
       record {
@@ -27,8 +27,8 @@ module _ (π : List ℕ) (A R : List (List ℕ)) (w : IsWord π) (ga : Each IsWo
       }
 
   -- so what it says of all demands is
-  all_say : Says (demands_known (word_rules.answer b)) (Each (Met (Holds αs))) (demands π A R)
-  all_say = demands_say (word_rules.answer b) (Holds αs) (demands π A R) says
+  all_say : Says (demands_known (word_rules.known b)) (Each (Met (Holds αs))) (demands π A R)
+  all_say = demands_say (word_rules.known b) (Holds αs) (demands π A R) says
 
   -- the demands are met where the inflation meets the name
   met_is : Each (Met (Holds αs)) (demands π A R) ↔ Meets A R (inflate π αs)
@@ -40,10 +40,10 @@ module _ (π : List ℕ) (A R : List (List ℕ)) (w : IsWord π) (ga : Each IsWo
         λ m. let r = (s.exact αs are).0 m in c.1 (get_or (boxes π A R) r.0 [], In_at (boxes π A R) r.0 [] r.1, r.2),
       )
 
-  pub done_meets : demands_known (word_rules.answer b) (demands π A R) ≡ Inside → Meets A R (inflate π αs)
+  pub done_meets : demands_known (word_rules.known b) (demands π A R) ≡ Inside → Meets A R (inflate π αs)
   done_meets e = met_is.0 (all_say.inside e)
 
-  pub broken_meets : demands_known (word_rules.answer b) (demands π A R) ≡ Outside → Meets A R (inflate π αs) → ⊥
+  pub broken_meets : demands_known (word_rules.known b) (demands π A R) ≡ Outside → Meets A R (inflate π αs) → ⊥
   broken_meets e m = all_say.outside e (met_is.1 m)
 
 -- the law
@@ -52,7 +52,7 @@ advice_law π A R b w ga gr = record {
   broken = λ e αs are lies. broken_meets π A R w (words_each A ga) (words_each R gr) b αs are lies e;
   done = λ e αs are lies. done_meets π A R w (words_each A ga) (words_each R gr) b αs are lies e;
   asks = λ e.
-      let n = next_finds (word_rules.answer b) (demands π A R) e in
+      let n = next_finds (word_rules.known b) (demands π A R) e in
       let a = demands_apt π A R (words_each A ga) (words_each R gr) n.0 n.2.1 in
       (n.0, n.1, n.2.0, a.child, a.word);
 }

@@ -12,7 +12,7 @@ use Rattle.av_perm.specs.Relations.{IsWord}
 use Rattle.av_sys.specs.declared.names.Constraint.{Constraint}
 use Rattle.av_name.specs.declared.constraints.Known.{Known}
 use Rattle.av_name.specs.declared.constraints.Known.TheVariants.{Inside, Outside, Open}
-use Rattle.av_name.specs.Constraints.{free, answer}
+use Rattle.av_name.specs.Constraints.{free, known_of}
 use Rattle.av_name.proofs.Growth.{IsFit}
 use Rattle.av_split.specs.declared.cells.Cell.{Cell}
 use Rattle.av_split.specs.declared.rows.Mark.{Mark}
@@ -69,7 +69,7 @@ first_same R F f G g S h k (x ∷ xs) [] p = absurd p
 first_same R F f G g S h k (x ∷ xs) (y ∷ ys) p =
     at_same S (F x) (f y) (G x) (first_open F G xs) (g y) (first_open f g ys) (h x y p.0) (k x y p.0) (first_same R F f G g S h k xs ys p.1)
 
--- demands by cells and by questions agree where the answers do
+-- demands by cells and by questions agree where what is known does
 module _ (k : ℕ) (ps : List (List ℕ)) (F : Cell → Known) (f : Question → Known) (same : (cell : Cell) (q : Question) → IsQuestionOf k ps cell q → F cell ≡ f q) where
   -- an embedding
   pub embedding_same : (cells : List Cell) (qs : List Question) → AreQuestionsOf k ps cells qs → all_of F cells ≡ all_of f qs
@@ -111,11 +111,11 @@ pub child_is : (ps : List (List ℕ)) (rows : List (List Mark)) (i : ℕ) → i 
 child_is ps rows i h = get_or-map (constraint_of ps) rows i [] free h
 
 -- what is known of a cell is what its constraint tells of its pattern
-pub cell_known : (k : ℕ) (ps : List (List ℕ)) (rows : List (List Mark)) (cell : Cell) (q : Question) → AreRows k ps rows → IsQuestionOf k ps cell q → known_at rows cell ≡ word_rules.answer (box_of ps rows) q
+pub cell_known : (k : ℕ) (ps : List (List ℕ)) (rows : List (List Mark)) (cell : Cell) (q : Question) → AreRows k ps rows → IsQuestionOf k ps cell q → known_at rows cell ≡ word_rules.known (box_of ps rows) q
 cell_known k ps rows cell q r i =
     (r.each cell.child i.child).known cell.pattern i.pattern
-    ∙ ap (λ c. answer c (get_or ps cell.pattern [])) (sym (child_is ps rows cell.child (let n = r.count in let h = i.child in omega arith)))
-    ∙ ap (word_rules.answer (box_of ps rows)) i.question
+    ∙ ap (λ c. known_of c (get_or ps cell.pattern [])) (sym (child_is ps rows cell.child (let n = r.count in let h = i.child in omega arith)))
+    ∙ ap (word_rules.known (box_of ps rows)) i.question
 
 -- the box of the rows is fine
 pub rows_fine : (k : ℕ) (ps : List (List ℕ)) (rows : List (List Mark)) → AreRows k ps rows → Fine k (box_of ps rows)
@@ -140,7 +140,7 @@ cell_question k ps ds es a d i cells j cell l =
     let m = pointwise_In (AreQuestionsOf k ps) d.embeddings (e.0).embeddings cells (e.1).embeddings j in
     pointwise_In (IsQuestionOf k ps) cells m.0 cell m.1 l
 
--- where one answer is the other is so too
+-- where one is known the other is so too
 abbrev pub Passes : {A : Type 0} → Known → (A → Known) → (A → Known) → A → Type 0
 Passes k f g x = f x ≡ k → g x ≡ k
 
@@ -264,7 +264,7 @@ weight_some (suc n) = omega arith
 -- the weight of some boxes
 abbrev pub weights : List (Demand Question) → List Box → ℕ
 weights ds [] = 0
-weights ds (b ∷ bs) = weight (open_count (word_rules.answer b) (questions_of ds)) + weights ds bs
+weights ds (b ∷ bs) = weight (open_count (word_rules.known b) (questions_of ds)) + weights ds bs
 
 pub none : {A : Type 0} {x : A} → None ≡ Some x → ⊥
 none e = cc
@@ -309,13 +309,13 @@ module _ (π : List ℕ) (A R ps : List (List ℕ)) (ds : List (Demand Cell)) (g
 
   -- a box with these rows
   module _ (rows : List (List Mark)) (is : AreRows (length π) ps rows) where
-    -- its answers at cells are those at questions
-    agree : (cell : Cell) (q : Question) → IsQuestionOf (length π) ps cell q → known_at rows cell ≡ word_rules.answer (box_of ps rows) q
+    -- what is known of cells is that of questions
+    agree : (cell : Cell) (q : Question) → IsQuestionOf (length π) ps cell q → known_at rows cell ≡ word_rules.known (box_of ps rows) q
     agree cell q e = cell_known (length π) ps rows cell q is e
 
     -- what is known of the demands
-    same_known : demands_known (known_at rows) ds ≡ demands_known (word_rules.answer (box_of ps rows)) (demands π A R)
-    same_known = demands_same (length π) ps (known_at rows) (word_rules.answer (box_of ps rows)) agree ds (demands π A R) asked
+    same_known : demands_known (known_at rows) ds ≡ demands_known (word_rules.known (box_of ps rows)) (demands π A R)
+    same_known = demands_same (length π) ps (known_at rows) (word_rules.known (box_of ps rows)) agree ds (demands π A R) asked
 
     -- the open cell of a step, with its question
     record Asked (cell : Cell) : Type 0 where
@@ -325,7 +325,7 @@ module _ (π : List ℕ) (A R ps : List (List ℕ)) (ds : List (Demand Cell)) (g
     asked_at : (cell : Cell) → IsStep (Asks cell) (demands_known (known_at rows) ds) (next_question (known_at rows) ds) → Asked cell
     asked_at cell s =
         let n = asks word_rules (demands π A R) (box_of ps rows) (sym same_known ∙ s.0) in
-        let both = next_same (length π) ps (known_at rows) (word_rules.answer (box_of ps rows)) agree ds (demands π A R) asked in
+        let both = next_same (length π) ps (known_at rows) (word_rules.known (box_of ps rows)) agree ds (demands π A R) asked in
         let i : IsQuestionOf (length π) ps cell n.0 = subst (λ o. OptionOf (IsQuestionOf (length π) ps) o (Some n.0)) s.1 (subst (OptionOf (IsQuestionOf (length π) ps) (next_question (known_at rows) ds)) n.1.next both) in
         record {
           cell_is = record { child = i.child; pattern = i.pattern; question = refl };
@@ -461,7 +461,7 @@ module _ (π : List ℕ) (A R ps : List (List ℕ)) (ds : List (Demand Cell)) (g
           record {
             path = r.0;
             boxes = ap₂ (λ (x y : List Box). x ++ y) e (ap (flat_map (boxes_by word_rules all)) (sym r.1));
-            less = let w = ap (weights all) r.1 in omega (arith, w, weight_some (open_count (word_rules.answer b) (questions_of all)));
+            less = let w = ap (weights all) r.1 in omega (arith, w, weight_some (open_count (word_rules.known b) (questions_of all)));
           }
 
       cut : (cell : Cell) → Asked p.rows.items i.marks cell → next_question (known_at p.rows.items) ds ≡ Some cell → (q : Path) → next ≡ Some q → found ≡ None → IsEntered false ps cell n p.rows.items (reverse p.turns.items) q
@@ -483,7 +483,7 @@ module _ (π : List ℕ) (A R ps : List (List ℕ)) (ds : List (Demand Cell)) (g
                 omega (
                   arith,
                   w,
-                  weight_two (open_count (word_rules.answer (part false)) (questions_of all)) (open_count (word_rules.answer (part true)) (questions_of all)) (open_count (word_rules.answer b) (questions_of all))
+                  weight_two (open_count (word_rules.known (part false)) (questions_of all)) (open_count (word_rules.known (part true)) (questions_of all)) (open_count (word_rules.known b) (questions_of all))
                       (fewer word_rules (Fine (length π)) (Apt (length π)) (word_law (length π)) all apt false b (question_at ps cell) fine a.asks)
                       (fewer word_rules (Fine (length π)) (Apt (length π)) (word_law (length π)) all apt true b (question_at ps cell) fine a.asks),
                 );

@@ -170,14 +170,14 @@ open_count_less f g (q ∷ qs) p h (inr i) e n = omega (arith, open_one_mono (f 
 
 -- Boxes of a kind `Fine`, asked questions of a kind `Apt`: what is known stays known, and each question that is asked becomes so
 pub record Lawful {B Q : Type 0} (r : Rules B Q) (Fine : B → Type 0) (Apt : Q → Type 0) : Type 0 where
-  pub fine : (w : Bool) (b : B) (q : Q) → Fine b → Apt q → r.answer b q ≡ Open → Fine (r.settle w b q)
-  pub settles : (w : Bool) (b : B) (q : Q) → Fine b → Apt q → r.answer b q ≡ Open → r.answer (r.settle w b q) q ≡ Open → ⊥
-  pub keeps : (w : Bool) (b : B) (q p : Q) → Fine b → Apt q → Apt p → r.answer b q ≡ Open → r.answer (r.settle w b q) p ≡ Open → r.answer b p ≡ Open
+  pub fine : (w : Bool) (b : B) (q : Q) → Fine b → Apt q → r.known b q ≡ Open → Fine (r.settle w b q)
+  pub settles : (w : Bool) (b : B) (q : Q) → Fine b → Apt q → r.known b q ≡ Open → r.known (r.settle w b q) q ≡ Open → ⊥
+  pub keeps : (w : Bool) (b : B) (q p : Q) → Fine b → Apt q → Apt p → r.known b q ≡ Open → r.known (r.settle w b q) p ≡ Open → r.known b p ≡ Open
 
 -- what lies in a box (`Lies`) and the questions that hold (`H`), for one list of blocks
 pub record Meant {B Q : Type 0} (r : Rules B Q) (Fine : B → Type 0) (Apt : Q → Type 0) (Lies : B → Type 0) (H : Q → Type 0) : Type 0 where
-  pub says : (b : B) (q : Q) → Fine b → Apt q → Lies b → Says (r.answer b) H q
-  pub lies : (w : Bool) (b : B) (q : Q) → Fine b → Apt q → r.answer b q ≡ Open → Lies (r.settle w b q) ↔ (Lies b × MetIf w (H q))
+  pub says : (b : B) (q : Q) → Fine b → Apt q → Lies b → Says (r.known b) H q
+  pub lies : (w : Bool) (b : B) (q : Q) → Fine b → Apt q → r.known b q ≡ Open → Lies (r.settle w b q) ↔ (Lies b × MetIf w (H q))
   pub decided : (q : Q) → Apt q → H q ⊎ (H q → ⊥)
 
 pub known_cases : (k : Known) → (k ≡ Outside) ⊎ ((k ≡ Inside) ⊎ (k ≡ Open))
@@ -206,42 +206,42 @@ Apart_at P (x ∷ xs) (suc i) (suc j) d a h k p q = Apart_at P xs i j d a.1 (ome
 
 -- an open box and its next question
 pub record Asks {B Q : Type 0} (r : Rules B Q) (ds : List (Demand Q)) (b : B) (q : Q) : Type 0 where
-  pub known : demands_known (r.answer b) ds ≡ Open
-  pub next : next_question (r.answer b) ds ≡ Some q
-  pub unknown : r.answer b q ≡ Open
+  pub known : demands_known (r.known b) ds ≡ Open
+  pub next : next_question (r.known b) ds ≡ Some q
+  pub unknown : r.known b q ≡ Open
   pub there : In q (questions_of ds)
 
-pub asks : {B Q : Type 0} (r : Rules B Q) (ds : List (Demand Q)) (b : B) → demands_known (r.answer b) ds ≡ Open → (q : Q) × Asks r ds b q
-asks r ds b k = let n = next_finds (r.answer b) ds k in (n.0, record { known = k; next = n.1; unknown = n.2.0; there = n.2.1 })
+pub asks : {B Q : Type 0} (r : Rules B Q) (ds : List (Demand Q)) (b : B) → demands_known (r.known b) ds ≡ Open → (q : Q) × Asks r ds b q
+asks r ds b k = let n = next_finds (r.known b) ds k in (n.0, record { known = k; next = n.1; unknown = n.2.0; there = n.2.1 })
 
 -- the three rules
-pub split_outside : {B Q : Type 0} (r : Rules B Q) (ds : List (Demand Q)) (d : ℕ) (b : B) → demands_known (r.answer b) ds ≡ Outside → split_by r ds d b ≡ []
-split_outside r ds zero b e = ap (λ k. outcome k b (next_question (r.answer b) ds) (λ q. [])) e
-split_outside r ds (suc d) b e = ap (λ k. outcome k b (next_question (r.answer b) ds) (λ q. split_by r ds d (r.settle false b q) ++ split_by r ds d (r.settle true b q))) e
+pub split_outside : {B Q : Type 0} (r : Rules B Q) (ds : List (Demand Q)) (d : ℕ) (b : B) → demands_known (r.known b) ds ≡ Outside → split_by r ds d b ≡ []
+split_outside r ds zero b e = ap (λ k. outcome k b (next_question (r.known b) ds) (λ q. [])) e
+split_outside r ds (suc d) b e = ap (λ k. outcome k b (next_question (r.known b) ds) (λ q. split_by r ds d (r.settle false b q) ++ split_by r ds d (r.settle true b q))) e
 
-pub split_inside : {B Q : Type 0} (r : Rules B Q) (ds : List (Demand Q)) (d : ℕ) (b : B) → demands_known (r.answer b) ds ≡ Inside → split_by r ds d b ≡ b ∷ []
-split_inside r ds zero b e = ap (λ k. outcome k b (next_question (r.answer b) ds) (λ q. [])) e
-split_inside r ds (suc d) b e = ap (λ k. outcome k b (next_question (r.answer b) ds) (λ q. split_by r ds d (r.settle false b q) ++ split_by r ds d (r.settle true b q))) e
+pub split_inside : {B Q : Type 0} (r : Rules B Q) (ds : List (Demand Q)) (d : ℕ) (b : B) → demands_known (r.known b) ds ≡ Inside → split_by r ds d b ≡ b ∷ []
+split_inside r ds zero b e = ap (λ k. outcome k b (next_question (r.known b) ds) (λ q. [])) e
+split_inside r ds (suc d) b e = ap (λ k. outcome k b (next_question (r.known b) ds) (λ q. split_by r ds d (r.settle false b q) ++ split_by r ds d (r.settle true b q))) e
 
 pub split_more : {B Q : Type 0} (r : Rules B Q) (ds : List (Demand Q)) (d : ℕ) (b : B) (q : Q) → Asks r ds b q → split_by r ds (suc d) b ≡ split_by r ds d (r.settle false b q) ++ split_by r ds d (r.settle true b q)
 split_more r ds d b q a = ap₂ (λ k o. outcome k b o (λ q. split_by r ds d (r.settle false b q) ++ split_by r ds d (r.settle true b q))) a.known a.next
 
 module _ {B Q : Type 0} (r : Rules B Q) (Fine : B → Type 0) (Apt : Q → Type 0) (law : Lawful r Fine Apt) (ds : List (Demand Q)) (apt : Each Apt (questions_of ds)) where
-  pub fewer : (w : Bool) (b : B) (q : Q) → Fine b → Asks r ds b q → open_count (r.answer (r.settle w b q)) (questions_of ds) < open_count (r.answer b) (questions_of ds)
+  pub fewer : (w : Bool) (b : B) (q : Q) → Fine b → Asks r ds b q → open_count (r.known (r.settle w b q)) (questions_of ds) < open_count (r.known b) (questions_of ds)
   fewer w b q f a =
-      open_count_less (r.answer (r.settle w b q)) (r.answer b) (questions_of ds) q (λ p j k. law.keeps w b q p f (apt q a.there) (apt p j) a.unknown k) a.there a.unknown (law.settles w b q f (apt q a.there) a.unknown)
+      open_count_less (r.known (r.settle w b q)) (r.known b) (questions_of ds) q (λ p j k. law.keeps w b q p f (apt q a.there) (apt p j) a.unknown k) a.there a.unknown (law.settles w b q f (apt q a.there) a.unknown)
 
   -- what holds of a box that is dropped, of one that is given, and, where it holds of both parts of a cut, of the whole, holds
   -- of each box and what it is cut into, with as many steps as it has open questions
-  pub split_induct : (P : B → List B → Type 0) → ((b : B) → Fine b → demands_known (r.answer b) ds ≡ Outside → P b []) → ((b : B) → Fine b → demands_known (r.answer b) ds ≡ Inside → P b (b ∷ []))
+  pub split_induct : (P : B → List B → Type 0) → ((b : B) → Fine b → demands_known (r.known b) ds ≡ Outside → P b []) → ((b : B) → Fine b → demands_known (r.known b) ds ≡ Inside → P b (b ∷ []))
       → ((b : B) (q : Q) (xs ys : List B) → Fine b → Asks r ds b q → P (r.settle false b q) xs → P (r.settle true b q) ys → P b (xs ++ ys))
-      → (d : ℕ) (b : B) → Fine b → open_count (r.answer b) (questions_of ds) ≤ d → P b (split_by r ds d b)
-  split_induct P dropped given cut zero b f h = elim (known_cases (demands_known (r.answer b) ds)) [
+      → (d : ℕ) (b : B) → Fine b → open_count (r.known b) (questions_of ds) ≤ d → P b (split_by r ds d b)
+  split_induct P dropped given cut zero b f h = elim (known_cases (demands_known (r.known b) ds)) [
     | inl k ↦ subst (P b) (sym (split_outside r ds 0 b k)) (dropped b f k)
     | inr (inl k) ↦ subst (P b) (sym (split_inside r ds 0 b k)) (given b f k)
     | inr (inr k) ↦ let a = asks r ds b k in absurd (omega (arith, fewer false b a.0 f a.1))
   ]
-  split_induct P dropped given cut (suc d) b f h = elim (known_cases (demands_known (r.answer b) ds)) [
+  split_induct P dropped given cut (suc d) b f h = elim (known_cases (demands_known (r.known b) ds)) [
     | inl k ↦ subst (P b) (sym (split_outside r ds (suc d) b k)) (dropped b f k)
     | inr (inl k) ↦ subst (P b) (sym (split_inside r ds (suc d) b k)) (given b f k)
     | inr (inr k) ↦
@@ -253,56 +253,56 @@ module _ {B Q : Type 0} (r : Rules B Q) (Fine : B → Type 0) (Apt : Q → Type 
   ]
 
   -- the same for the boxes that a box is cut into
-  pub boxes_induct : (P : B → List B → Type 0) → ((b : B) → Fine b → demands_known (r.answer b) ds ≡ Outside → P b []) → ((b : B) → Fine b → demands_known (r.answer b) ds ≡ Inside → P b (b ∷ []))
+  pub boxes_induct : (P : B → List B → Type 0) → ((b : B) → Fine b → demands_known (r.known b) ds ≡ Outside → P b []) → ((b : B) → Fine b → demands_known (r.known b) ds ≡ Inside → P b (b ∷ []))
       → ((b : B) (q : Q) (xs ys : List B) → Fine b → Asks r ds b q → P (r.settle false b q) xs → P (r.settle true b q) ys → P b (xs ++ ys))
       → (b : B) → Fine b → P b (boxes_by r ds b)
-  boxes_induct P dropped given cut b f = split_induct P dropped given cut (length (questions_of ds)) b f (open_count_length (r.answer b) (questions_of ds))
+  boxes_induct P dropped given cut b f = split_induct P dropped given cut (length (questions_of ds)) b f (open_count_length (r.known b) (questions_of ds))
 
   -- each box that is given has its demands met, and is of the kind
-  pub boxes_done : (b : B) → Fine b → Each (λ x. (demands_known (r.answer x) ds ≡ Inside) × Fine x) (boxes_by r ds b)
+  pub boxes_done : (b : B) → Fine b → Each (λ x. (demands_known (r.known x) ds ≡ Inside) × Fine x) (boxes_by r ds b)
   boxes_done =
-      boxes_induct (λ b. Each (λ x. (demands_known (r.answer x) ds ≡ Inside) × Fine x)) (λ b f k x i. absurd i)
-      (λ b f k x i. subst (λ y. (demands_known (r.answer y) ds ≡ Inside) × Fine y) (sym (In_one x b i)) (k, f))
+      boxes_induct (λ b. Each (λ x. (demands_known (r.known x) ds ≡ Inside) × Fine x)) (λ b f k x i. absurd i)
+      (λ b f k x i. subst (λ y. (demands_known (r.known y) ds ≡ Inside) × Fine y) (sym (In_one x b i)) (k, f))
       (λ b q xs ys f a g h x i. elim (In_append_cases xs ys x i) [ inl j ↦ g x j | inr j ↦ h x j ])
 
   -- more steps than there are open questions change nothing
-  pub split_same : (d e : ℕ) (b : B) → Fine b → open_count (r.answer b) (questions_of ds) ≤ d → open_count (r.answer b) (questions_of ds) ≤ e → split_by r ds e b ≡ split_by r ds d b
+  pub split_same : (d e : ℕ) (b : B) → Fine b → open_count (r.known b) (questions_of ds) ≤ d → open_count (r.known b) (questions_of ds) ≤ e → split_by r ds e b ≡ split_by r ds d b
   split_same d e b f h k =
-      split_induct (λ (b : B) (xs : List B). (n : ℕ) → open_count (r.answer b) (questions_of ds) ≤ n → split_by r ds n b ≡ xs) (λ b f o n l. split_outside r ds n b o) (λ b f o n l. split_inside r ds n b o)
+      split_induct (λ (b : B) (xs : List B). (n : ℕ) → open_count (r.known b) (questions_of ds) ≤ n → split_by r ds n b ≡ xs) (λ b f o n l. split_outside r ds n b o) (λ b f o n l. split_inside r ds n b o)
       (λ b q xs ys f a g h n l. cut b q xs ys f a g h n l) d b f h e k
     where
-      cut : (b : B) (q : Q) (xs ys : List B) → Fine b → Asks r ds b q → ((n : ℕ) → open_count (r.answer (r.settle false b q)) (questions_of ds) ≤ n → split_by r ds n (r.settle false b q) ≡ xs)
-          → ((n : ℕ) → open_count (r.answer (r.settle true b q)) (questions_of ds) ≤ n → split_by r ds n (r.settle true b q) ≡ ys) → (n : ℕ) → open_count (r.answer b) (questions_of ds) ≤ n → split_by r ds n b ≡ xs ++ ys
+      cut : (b : B) (q : Q) (xs ys : List B) → Fine b → Asks r ds b q → ((n : ℕ) → open_count (r.known (r.settle false b q)) (questions_of ds) ≤ n → split_by r ds n (r.settle false b q) ≡ xs)
+          → ((n : ℕ) → open_count (r.known (r.settle true b q)) (questions_of ds) ≤ n → split_by r ds n (r.settle true b q) ≡ ys) → (n : ℕ) → open_count (r.known b) (questions_of ds) ≤ n → split_by r ds n b ≡ xs ++ ys
       cut b q xs ys f a g h zero l = absurd (omega (arith, fewer false b q f a))
       cut b q xs ys f a g h (suc n) l =
           split_more r ds n b q a ∙ ap₂ (λ x y. x ++ y) (g n (omega (arith, fewer false b q f a))) (h n (omega (arith, fewer true b q f a)))
 
-  pub never_stuck : (d : ℕ) (b : B) → Fine b → open_count (r.answer b) (questions_of ds) ≤ d → NeverStuck r ds d b
+  pub never_stuck : (d : ℕ) (b : B) → Fine b → open_count (r.known b) (questions_of ds) ≤ d → NeverStuck r ds d b
   never_stuck zero b f h = λ k. let a = asks r ds b k in absurd (omega (arith, fewer false b a.0 f a.1))
   never_stuck (suc d) b f h = λ k.
       let a = asks r ds b k in
       (a.0, a.1.next, λ w. never_stuck d (r.settle w b a.0) (law.fine w b a.0 f (apt a.0 a.1.there) a.1.unknown) (omega (arith, fewer w b a.0 f a.1)))
 
   -- a broken box gives none, one that is done itself, and an open one the boxes of its two parts
-  pub boxes_outside : (b : B) → demands_known (r.answer b) ds ≡ Outside → boxes_by r ds b ≡ []
+  pub boxes_outside : (b : B) → demands_known (r.known b) ds ≡ Outside → boxes_by r ds b ≡ []
   boxes_outside = split_outside r ds (length (questions_of ds))
 
-  pub boxes_inside : (b : B) → demands_known (r.answer b) ds ≡ Inside → boxes_by r ds b ≡ b ∷ []
+  pub boxes_inside : (b : B) → demands_known (r.known b) ds ≡ Inside → boxes_by r ds b ≡ b ∷ []
   boxes_inside = split_inside r ds (length (questions_of ds))
 
   pub boxes_more : (b : B) (q : Q) → Fine b → Asks r ds b q → boxes_by r ds b ≡ boxes_by r ds (r.settle false b q) ++ boxes_by r ds (r.settle true b q)
   boxes_more b q f a =
       let n : ℕ = length (questions_of ds) in
       let some = fewer false b q f a in
-      let l = open_count_length (r.answer b) (questions_of ds) in
+      let l = open_count_length (r.known b) (questions_of ds) in
       let m : suc (n - 1) ≡ n = omega arith in
       let part : (w : Bool) → split_by r ds (n - 1) (r.settle w b q) ≡ split_by r ds n (r.settle w b q) =
       λ w. split_same n (n - 1) (r.settle w b q) (law.fine w b q f (apt q a.there) a.unknown) (omega (arith, fewer w b q f a)) (omega (arith, fewer w b q f a)) in
       ap (λ j. split_by r ds j b) (sym m) ∙ split_more r ds (n - 1) b q a ∙ ap₂ (λ x y. x ++ y) (part false) (part true)
 
   module _ (Lies : B → Type 0) (H : Q → Type 0) (meant : Meant r Fine Apt Lies H) where
-    state_says : (b : B) → Fine b → Lies b → Says (demands_known (r.answer b)) (Each (Met H)) ds
-    state_says b f l = demands_say (r.answer b) H ds (λ q i. meant.says b q f (apt q i) l)
+    state_says : (b : B) → Fine b → Lies b → Says (demands_known (r.known b)) (Each (Met H)) ds
+    state_says b f l = demands_say (r.known b) H ds (λ q i. meant.says b q f (apt q i) l)
 
     -- what lies in a box that is given lies in the whole, and meets the demands
     abbrev Sound : B → List B → Type 0

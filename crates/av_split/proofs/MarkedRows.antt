@@ -15,15 +15,15 @@ use Rattle.av_perm.proofs.Containment.{contains_same}
 use Rattle.av_perm.proofs.MinimalWords.{minimal_is, maximal_is, minimal_ascending, maximal_ascending}
 use Rattle.av_sys.specs.declared.names.Constraint.{Constraint}
 use Rattle.av_name.specs.declared.constraints.Known.TheVariants.{Inside, Open as Unknown}
-use Rattle.av_name.specs.Constraints.{free, answer, known_by}
-use Rattle.av_name.proofs.Answered.{open_is}
+use Rattle.av_name.specs.Constraints.{free, known_of, known_by}
+use Rattle.av_name.proofs.KnownPatterns.{open_is}
 use Rattle.av_name.proofs.Growth.{IsFit}
 use Rattle.av_split.specs.declared.rows.Mark.{Mark}
 use Rattle.av_split.specs.Boxes.{added}
 use Rattle.av_split.specs.Laws.{IsTidy}
 use Rattle.av_split.specs.Marks.{unmarked, once, is_side, is_named, next_mark, relates, IsSettled, named, constraint_of, free_mark}
 use Rattle.av_split.specs.Walk.{IsRow}
-use Rattle.av_split.proofs.WordSplit.{stands, stands_itself, added_answer, added_fit, added_tidy, free_tidy, free_fit}
+use Rattle.av_split.proofs.WordSplit.{stands, stands_itself, added_known, added_fit, added_tidy, free_tidy, free_fit}
 
 -- a pattern of the row is a required word of the constraint, or an avoided one
 pub record Has (r : Bool) (ps : List (List ℕ)) (row : List Mark) (w : List ℕ) : Type 0 where
@@ -114,7 +114,7 @@ top_tidy true c w v t i j s = ((maximal_is c.require w).0 (subst (In w) (sym t.m
 top_tidy false c w v t i j s = ((minimal_is c.avoid w).0 (subst (In w) (sym t.minimal) i)).least v j s
 
 -- where nothing is known of the pattern, no word of the constraint stands for it, nor it for one of the other kind
-pub none_stands : (r : Bool) (c : Constraint) (p a : List ℕ) → answer c p ≡ Unknown → In a (words r c) → Stands r p a → ⊥
+pub none_stands : (r : Bool) (c : Constraint) (p a : List ℕ) → known_of c p ≡ Unknown → In a (words r c) → Stands r p a → ⊥
 none_stands true c p a o i s = (open_is c p o).0 (inr (a, i, s))
 none_stands false c p a o i s = (open_is c p o).1 (a, i, s)
 
@@ -122,7 +122,7 @@ none_stands false c p a o i s = (open_is c p o).1 (a, i, s)
 abbrev pub Joins : Bool → Bool → Constraint → List ℕ → List ℕ → Type 0
 Joins r r' c p w = ((w ≡ p) × (r' ≡ r)) ⊎ (In w (words r' c) × (Stands r w p → ⊥))
 
-pub same_from : (r : Bool) (c : Constraint) (p w : List ℕ) → answer c p ≡ Unknown → In w (words r (added r c p)) → Joins r r c p w
+pub same_from : (r : Bool) (c : Constraint) (p w : List ℕ) → known_of c p ≡ Unknown → In w (words r (added r c p)) → Joins r r c p w
 same_from r c p w o i = by m.member
   where
     m : Top r (p ∷ words r c) w
@@ -132,7 +132,7 @@ same_from r c p w o i = by m.member
     by (inl e) = inl (e, refl)
     by (inr j) = inr (j, λ s. none_stands r c p w o j (subst (λ v. Stands r v w) (sym (m.alone p (inl refl) s)) (stands_same r w)))
 
-pub same_to : (r : Bool) (c : Constraint) (p w : List ℕ) → IsTidy c → answer c p ≡ Unknown → Joins r r c p w → In w (words r (added r c p))
+pub same_to : (r : Bool) (c : Constraint) (p w : List ℕ) → IsTidy c → known_of c p ≡ Unknown → Joins r r c p w → In w (words r (added r c p))
 same_to r c p w t o (inl e) = (top_added r c p w).1 (record { member = inl e.0; alone = λ v i s. by v i (subst (λ x. Stands r x v) e.0 s) })
   where
     by : (v : List ℕ) → In v (p ∷ words r c) → Stands r p v → v ≡ w
@@ -144,13 +144,13 @@ same_to r c p w t o (inr h) = (top_added r c p w).1 (record { member = inr h.0; 
     by v (inl q) s = absurd (h.1 (subst (Stands r w) q s))
     by v (inr j) s = top_tidy r c w v t h.0 j s
 
-pub joins_from : (r r' : Bool) (c : Constraint) (p w : List ℕ) → answer c p ≡ Unknown → In w (words r' (added r c p)) → Joins r r' c p w
+pub joins_from : (r r' : Bool) (c : Constraint) (p w : List ℕ) → known_of c p ≡ Unknown → In w (words r' (added r c p)) → Joins r r' c p w
 joins_from true true c p w o i = same_from true c p w o i
 joins_from false false c p w o i = same_from false c p w o i
 joins_from true false c p w o i = inr (i, λ s. (open_is c p o).1 (w, i, s))
 joins_from false true c p w o i = inr (i, λ s. (open_is c p o).0 (inr (w, i, s)))
 
-pub joins_to : (r r' : Bool) (c : Constraint) (p w : List ℕ) → IsTidy c → answer c p ≡ Unknown → Joins r r' c p w → In w (words r' (added r c p))
+pub joins_to : (r r' : Bool) (c : Constraint) (p w : List ℕ) → IsTidy c → known_of c p ≡ Unknown → Joins r r' c p w → In w (words r' (added r c p))
 joins_to true true c p w t o j = same_to true c p w t o j
 joins_to false false c p w t o j = same_to false c p w t o j
 joins_to true false c p w t o (inl e) = absurd (let q = e.1 in cc)
@@ -173,7 +173,7 @@ stands_for ps row c s t h = ap₂ (λ (a q : List (List ℕ)). record { avoid = 
 
 -- a row that stands for a fit and tidy constraint, whose marks are what it tells
 pub row_of : (ps : List (List ℕ)) (row : List Mark) (c : Constraint) → constraint_of ps row ≡ c → length row ≡ length ps → IsFit c → IsTidy c
-    → ((i : ℕ) → i < length ps → (get_or row i unmarked).known ≡ answer c (get_or ps i [])) → IsRow ps row
+    → ((i : ℕ) → i < length ps → (get_or row i unmarked).known ≡ known_of c (get_or ps i [])) → IsRow ps row
 row_of ps row c e l f t k =
     let g : IsFit (constraint_of ps row) = subst IsFit (sym e) f in
     record {
@@ -182,7 +182,7 @@ row_of ps row c e l f t k =
       require = g.require;
       long = g.long;
       tidy = subst IsTidy (sym e) t;
-      known = λ i h. k i h ∙ ap (λ d. answer d (get_or ps i [])) (sym e);
+      known = λ i h. k i h ∙ ap (λ d. known_of d (get_or ps i [])) (sym e);
     }
 
 pub row_fit : (ps : List (List ℕ)) (row : List Mark) → IsRow ps row → IsFit (constraint_of ps row)
@@ -217,11 +217,11 @@ settled_known r ps n row next s i h = ap (λ (m : Mark). m.known) (s.marks i h) 
 module _ (r : Bool) (ps : List (List ℕ)) (n : ℕ) (row next : List Mark) (is : IsRow ps row) (h : n < length ps) (word : IsWord (get_or ps n [])) (unknown : (get_or row n unmarked).known ≡ Unknown)
     (s : IsSettled r ps n row next) where
   -- nothing is known of the pattern
-  pub answer_open : answer (constraint_of ps row) (get_or ps n []) ≡ Unknown
-  answer_open = sym (is.known n h) ∙ unknown
+  pub known_open : known_of (constraint_of ps row) (get_or ps n []) ≡ Unknown
+  known_open = sym (is.known n h) ∙ unknown
 
   pub grown_tidy : IsTidy (added r (constraint_of ps row) (get_or ps n []))
-  grown_tidy = added_tidy r (constraint_of ps row) (get_or ps n []) answer_open is.tidy
+  grown_tidy = added_tidy r (constraint_of ps row) (get_or ps n []) known_open is.tidy
 
   pub size : length next ≡ length ps
   size = s.size ∙ is.size
@@ -265,17 +265,17 @@ module _ (r : Bool) (ps : List (List ℕ)) (n : ℕ) (row next : List Mark) (is 
   settled_is =
       stands_for ps next (added r (constraint_of ps row) (get_or ps n [])) size grown_tidy
       (λ r' w. (
-        λ k. joins_to r r' (constraint_of ps row) (get_or ps n []) w is.tidy answer_open (has_from r' w k),
-        λ i. has_to r' w (joins_from r r' (constraint_of ps row) (get_or ps n []) w answer_open i),
+        λ k. joins_to r r' (constraint_of ps row) (get_or ps n []) w is.tidy known_open (has_from r' w k),
+        λ i. has_to r' w (joins_from r r' (constraint_of ps row) (get_or ps n []) w known_open i),
       ))
 
   pub settled_row : IsRow ps next
   settled_row =
-      row_of ps next (added r (constraint_of ps row) (get_or ps n [])) settled_is size (added_fit r (constraint_of ps row) (get_or ps n []) (row_fit ps row is) word answer_open) grown_tidy
+      row_of ps next (added r (constraint_of ps row) (get_or ps n [])) settled_is size (added_fit r (constraint_of ps row) (get_or ps n []) (row_fit ps row is) word known_open) grown_tidy
       (λ i k.
       settled_known r ps n row next s i k
       ∙ ap₂ (once r) (relates_is r ps n i) (is.known i k)
-      ∙ sym (added_answer r (constraint_of ps row) (get_or ps n []) (get_or ps i []) (row_fit ps row is) word answer_open))
+      ∙ sym (added_known r (constraint_of ps row) (get_or ps n []) (get_or ps i []) (row_fit ps row is) word known_open))
 
 -- the row where nothing is avoided or required
 pub free_is : (ps : List (List ℕ)) → constraint_of ps (map free_mark ps) ≡ free
@@ -289,7 +289,7 @@ free_is ps = stands_for ps (map free_mark ps) free (length-map ps free_mark) fre
     by false w i = absurd i
 
 pub free_row : (ps : List (List ℕ)) → IsRow ps (map free_mark ps)
-unfolding answer
+unfolding known_of
 free_row ps = row_of ps (map free_mark ps) free (free_is ps) (length-map ps free_mark) free_fit free_tidy
     (λ i h. ap (λ (m : Mark). m.known) (get_or-map free_mark ps i [] unmarked h) ∙ of (length (get_or ps i []) == 1))
   where

@@ -20,9 +20,9 @@ use Rattle.av_sys.specs.declared.names.Constraint.{Constraint}
 use Rattle.av_sys.specs.Names.{Meets}
 use Rattle.av_name.specs.declared.constraints.Known.{Known}
 use Rattle.av_name.specs.declared.constraints.Known.TheVariants.{Open}
-use Rattle.av_name.specs.Constraints.{free, answer}
-use Rattle.av_name.proofs.Answered.{inside_says, outside_says, outside_is, free_meets}
-use Rattle.av_name.proofs.Growth.{IsFit, avoid_fit, require_fit, answer_avoid, answer_require, meets_avoid, meets_require, clean_avoid, clean_require}
+use Rattle.av_name.specs.Constraints.{free, known_of}
+use Rattle.av_name.proofs.KnownPatterns.{inside_says, outside_says, outside_is, free_meets}
+use Rattle.av_name.proofs.Growth.{IsFit, avoid_fit, require_fit, known_of_avoid, known_of_require, meets_avoid, meets_require, clean_avoid, clean_require}
 use Rattle.av_split.specs.Split.{Demand, questions_of, all_of, some_of, demand_known}
 use Rattle.av_split.specs.Boxes.{Question, Box, child_of, added, word_rules, ask, questions, demand, demands, boxes}
 use Rattle.av_split.specs.Laws.{IsTidy, Splits, SplitLaw}
@@ -39,15 +39,15 @@ stands_itself true w = contains_to w w (contains_same w)
 stands_itself false w = contains_to w w (contains_same w)
 
 -- what is known once a word is required, or avoided
-pub added_answer : (r : Bool) (c : Constraint) (p w : List ℕ) → IsFit c → IsWord p → answer c p ≡ Open → answer (added r c p) w ≡ once r (stands r w p) (answer c w)
-added_answer true c p w f g o = answer_require c p w f.require g o
-added_answer false c p w f g o = answer_avoid c p w f.avoid g
+pub added_known : (r : Bool) (c : Constraint) (p w : List ℕ) → IsFit c → IsWord p → known_of c p ≡ Open → known_of (added r c p) w ≡ once r (stands r w p) (known_of c w)
+added_known true c p w f g o = known_of_require c p w f.require g o
+added_known false c p w f g o = known_of_avoid c p w f.avoid g
 
-pub added_fit : (r : Bool) (c : Constraint) (p : List ℕ) → IsFit c → IsWord p → answer c p ≡ Open → IsFit (added r c p)
+pub added_fit : (r : Bool) (c : Constraint) (p : List ℕ) → IsFit c → IsWord p → known_of c p ≡ Open → IsFit (added r c p)
 added_fit true c p f g o = require_fit c p f g o
 added_fit false c p f g o = avoid_fit c p f g
 
-pub added_tidy : (r : Bool) (c : Constraint) (p : List ℕ) → answer c p ≡ Open → IsTidy c → IsTidy (added r c p)
+pub added_tidy : (r : Bool) (c : Constraint) (p : List ℕ) → known_of c p ≡ Open → IsTidy c → IsTidy (added r c p)
 added_tidy true c p o t = record { minimal = t.minimal; maximal = maximal_again (p ∷ c.require); clean = clean_require c p o t.clean }
 added_tidy false c p o t = record { minimal = minimal_again (p ∷ c.avoid); maximal = t.maximal; clean = clean_avoid c p o t.clean }
 
@@ -96,17 +96,17 @@ word_law k = record {
       changed_fine k b q.child (added r (child_of b q.child) q.word) f a.child (added_fit r (child_of b q.child) q.word (f.fit q.child a.child) a.word o)
       (added_tidy r (child_of b q.child) q.word o (f.tidy q.child a.child));
   settles = λ r b q f a o e.
-      let h = once_open r (stands r q.word q.word) (answer (child_of b q.child) q.word)
-      (sym (added_answer r (child_of b q.child) q.word q.word (f.fit q.child a.child) a.word o)
-      ∙ subst (λ d. answer d q.word ≡ Open) (same_child b q.child (added r (child_of b q.child) q.word) k f a.child) e) in
+      let h = once_open r (stands r q.word q.word) (known_of (child_of b q.child) q.word)
+      (sym (added_known r (child_of b q.child) q.word q.word (f.fit q.child a.child) a.word o)
+      ∙ subst (λ d. known_of d q.word ≡ Open) (same_child b q.child (added r (child_of b q.child) q.word) k f a.child) e) in
       true_false (sym (stands_itself r q.word) ∙ h.1);
   keeps = λ r b q p f a x o e. elim (cases_eq p.child q.child) [
     | inl h ↦
-        subst (λ j. answer (child_of b j) p.word ≡ Open) (sym h)
-        (once_open r (stands r p.word q.word) (answer (child_of b q.child) p.word)
-        (sym (added_answer r (child_of b q.child) q.word p.word (f.fit q.child a.child) a.word o)
-        ∙ subst (λ d. answer d p.word ≡ Open) (ap (child_of (word_rules.settle r b q)) h ∙ same_child b q.child (added r (child_of b q.child) q.word) k f a.child) e)).0
-    | inr n ↦ subst (λ d. answer d p.word ≡ Open) (other_child b q.child p.child (added r (child_of b q.child) q.word) n) e
+        subst (λ j. known_of (child_of b j) p.word ≡ Open) (sym h)
+        (once_open r (stands r p.word q.word) (known_of (child_of b q.child) p.word)
+        (sym (added_known r (child_of b q.child) q.word p.word (f.fit q.child a.child) a.word o)
+        ∙ subst (λ d. known_of d p.word ≡ Open) (ap (child_of (word_rules.settle r b q)) h ∙ same_child b q.child (added r (child_of b q.child) q.word) k f a.child) e)).0
+    | inr n ↦ subst (λ d. known_of d p.word ≡ Open) (other_child b q.child p.child (added r (child_of b q.child) q.word) n) e
   ];
 }
   where
@@ -142,7 +142,7 @@ pub added_meets : (r : Bool) (σ : List ℕ) (c : Constraint) (p : List ℕ) →
 added_meets true σ c p f g = meets_require σ c p f.require g
 added_meets false σ c p f g = meets_avoid σ c p f.avoid g
 
--- what the answers and the changed boxes mean
+-- what is known, and the changed boxes, mean
 pub word_meant : (k : ℕ) (αs : List (List ℕ)) → ((i : ℕ) → i < k → 1 ≤ length (block αs i)) → Meant word_rules (Fine k) (Apt k) (Lies k αs) (Holds αs)
 word_meant k αs filled = record {
   says = λ b q f a l. record {
@@ -297,7 +297,7 @@ child_avoids π A R γ x i ga gr inA hx hi =
     let k : ℕ = length π in
     let ds : List (Demand Question) = demands π A R in
     let start : Box = replicate (length π) free in
-    let f : Question → Known = word_rules.answer x in
+    let f : Question → Known = word_rules.known x in
     let done = (boxes_done word_rules (Fine k) (Apt k) (word_law k) ds (demands_apt π A R ga gr) start (start_fine k) x hx).0 in
     let d = each_inside (demand_known f) ds done (demand π false γ) (append_left (map (demand π false) A) (map (demand π true) R) (demand π false γ) (map_In (demand π false) A γ inA)) in
     let out = unflipped (some_of (all_of f) (map (questions π γ) (embeddings π γ))) d in
@@ -332,9 +332,9 @@ split_is π A R w ga gr = record {
   sized = λ b i. (box_fine π A R b ga gr i).count;
   tidy = λ b i. (box_fine π A R b ga gr i).tidy;
   kept = λ γ g b i j h. child_avoids π A R γ b j ga gr g i h;
-  never_stuck = never_stuck word_rules (Fine k) (Apt k) (word_law k) ds apt (length (questions_of ds)) start fine (open_count_length (word_rules.answer start) (questions_of ds));
+  never_stuck = never_stuck word_rules (Fine k) (Apt k) (word_law k) ds apt (length (questions_of ds)) start fine (open_count_length (word_rules.known start) (questions_of ds));
   enough = λ d h.
-      let l = open_count_length (word_rules.answer start) (questions_of ds) in
+      let l = open_count_length (word_rules.known start) (questions_of ds) in
       split_same word_rules (Fine k) (Apt k) (word_law k) ds apt (length (questions_of ds)) d start fine l (omega (arith, l));
 }
   where

@@ -10,10 +10,10 @@ use Rattle.av_split.specs.Laws.{LiesIn}
 
 -- of any box
 pub record Advises (π : List ℕ) (A R : List (List ℕ)) (b : Box) : Type 0 where
-  pub broken : demands_known (word_rules.answer b) (demands π A R) ≡ Outside → (αs : List (List ℕ)) → AreBlocks π αs → LiesIn π αs b → Meets A R (inflate π αs) → ⊥
-  pub done : demands_known (word_rules.answer b) (demands π A R) ≡ Inside → (αs : List (List ℕ)) → AreBlocks π αs → LiesIn π αs b → Meets A R (inflate π αs)
-  pub asks : demands_known (word_rules.answer b) (demands π A R) ≡ Open
-      → (q : Question) × (next_question (word_rules.answer b) (demands π A R) ≡ Some q) × (word_rules.answer b q ≡ Open) × (q.child < length π) × IsWord q.word
+  pub broken : demands_known (word_rules.known b) (demands π A R) ≡ Outside → (αs : List (List ℕ)) → AreBlocks π αs → LiesIn π αs b → Meets A R (inflate π αs) → ⊥
+  pub done : demands_known (word_rules.known b) (demands π A R) ≡ Inside → (αs : List (List ℕ)) → AreBlocks π αs → LiesIn π αs b → Meets A R (inflate π αs)
+  pub asks : demands_known (word_rules.known b) (demands π A R) ≡ Open
+      → (q : Question) × (next_question (word_rules.known b) (demands π A R) ≡ Some q) × (word_rules.known b q ≡ Open) × (q.child < length π) × IsWord q.word
 
 -- so of every root and name
 abbrev pub AdviceLaw : Type 0

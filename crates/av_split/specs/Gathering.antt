@@ -49,12 +49,12 @@ turned_word_step false (steps.Asks child word) = steps.Asks child word
 
 -- the first open question of a demand
 abbrev pub demand_question : Box → Demand Question → Option Question
-demand_question b d = first_open (all_of (word_rules.answer b)) (λ (m : List Question). first_open (word_rules.answer b) (λ (q : Question). Some q) m) d.embeddings
+demand_question b d = first_open (all_of (word_rules.known b)) (λ (m : List Question). first_open (word_rules.known b) (λ (q : Question). Some q) m) d.embeddings
 
 -- of the demands `xs`, those before the rest told no more than that none is broken, and the first open question
 pub record Told (b : Box) (found : Option Question) (xs rest : List (Demand Question)) : Type 0 where
-  pub known : demands_known (word_rules.answer b) xs ≡ both (known_so found) (demands_known (word_rules.answer b) rest)
-  pub first : first_open (demand_known (word_rules.answer b)) (demand_question b) xs ≡ or_else found (first_open (demand_known (word_rules.answer b)) (demand_question b) rest)
+  pub known : demands_known (word_rules.known b) xs ≡ both (known_so found) (demands_known (word_rules.known b) rest)
+  pub first : first_open (demand_known (word_rules.known b)) (demand_question b) xs ≡ or_else found (first_open (demand_known (word_rules.known b)) (demand_question b) rest)
 
 -- among whatever demands, those of `ds` were gone through down to those of `es`
 abbrev pub Gathers : Box → Option Question → List (Demand Question) → Option Question → List (Demand Question) → Type 0
@@ -62,7 +62,7 @@ Gathers b old ds new es = (xs rest : List (Demand Question)) → Told b old xs (
 
 -- among whatever demands, one of `ds` is broken
 abbrev pub IsBroken : Box → Option Question → List (Demand Question) → Type 0
-IsBroken b old ds = (xs rest : List (Demand Question)) → Told b old xs (ds ++ rest) → demands_known (word_rules.answer b) xs ≡ Outside
+IsBroken b old ds = (xs rest : List (Demand Question)) → Told b old xs (ds ++ rest) → demands_known (word_rules.known b) xs ≡ Outside
 
 -- either of the two
 abbrev pub IsGathered : Box → Gathered → Option Question → List (Demand Question) → Type 0

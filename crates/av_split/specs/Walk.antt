@@ -4,7 +4,7 @@ use Rattle.std.specs.Prelude.{◌≡◌, ℕ, ◌<◌, ◌≤◌, true, false, c
 use Rattle.av_perm.specs.declared.words.Memory.{Memory}
 use Rattle.av_perm.specs.Members.{In}
 use Rattle.av_perm.specs.Relations.{IsWord}
-use Rattle.av_name.specs.Constraints.{answer}
+use Rattle.av_name.specs.Constraints.{known_of}
 use Rattle.av_name.specs.declared.constraints.Known.TheVariants.{Inside, Open}
 use Rattle.av_split.specs.declared.cells.Cell.{Cell}
 use Rattle.av_split.specs.declared.rows.Mark.{Mark}
@@ -25,7 +25,7 @@ pub record IsRow (ps : List (List ℕ)) (row : List Mark) : Type 0 where
   pub require : (w : List ℕ) → In w (constraint_of ps row).require → IsWord w
   pub long : (w : List ℕ) → In w (constraint_of ps row).require → 2 ≤ length w
   pub tidy : IsTidy (constraint_of ps row)
-  pub known : (i : ℕ) → i < length ps → (get_or row i unmarked).known ≡ answer (constraint_of ps row) (get_or ps i [])
+  pub known : (i : ℕ) → i < length ps → (get_or row i unmarked).known ≡ known_of (constraint_of ps row) (get_or ps i [])
 
 -- a row for each of `k` children
 pub record AreRows (k : ℕ) (ps : List (List ℕ)) (rows : List (List Mark)) : Type 0 where

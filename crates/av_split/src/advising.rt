@@ -10,7 +10,7 @@ ghost use Rattle.av_split.specs.Gathering.{IsWordStep, IsWholeStep, question_ask
 
 use crate::boxes::SplitBox;
 use av_embed::{Embeddings, Map, fibre};
-use av_name::{Known, answer};
+use av_name::{Known, known_of};
 use av_perm::{MAX_LENGTH, MAX_PATTERN_LENGTH, MAX_ROOT_LENGTH, Perm, Words};
 use av_sys::Name;
 
@@ -51,10 +51,10 @@ fn child_step(cell: &SplitBox, word: &Perm, places: &Map, child: usize) -> WordS
     requires places { length places.now ≡ length word.now }
     requires here { child < length cell.now }
     requires small { child < MAX_LENGTH }
-    ensures { IsWholeStep result (all_of (word_rules.answer cell.now) (ask child (fibre word.now places.now (suc child)))) (first_open (word_rules.answer cell.now) (λ (q : Question). Some q) (ask child (fibre word.now places.now (suc child)))) }
+    ensures { IsWholeStep result (all_of (word_rules.known cell.now) (ask child (fibre word.now places.now (suc child)))) (first_open (word_rules.known cell.now) (λ (q : Question). Some q) (ask child (fibre word.now places.now (suc child)))) }
 {
     match fibre(word, places, child + 1) {
-        Some(pattern) => match answer(cell.get(child), &pattern) {
+        Some(pattern) => match known_of(cell.get(child), &pattern) {
             Known::Inside => WordStep::Holds,
             Known::Outside => WordStep::Fails,
             Known::Open => WordStep::Asks {
@@ -70,7 +70,7 @@ fn child_step(cell: &SplitBox, word: &Perm, places: &Map, child: usize) -> WordS
 fn embedding_step(cell: &SplitBox, word: &Perm, places: &Map) -> WordStep
     requires places { length places.now ≡ length word.now }
     requires small { length cell.now ≤ MAX_ROOT_LENGTH }
-    ensures { IsWholeStep result (all_of (word_rules.answer cell.now) (joined (λ i. ask i (fibre word.now places.now (suc i))) (length cell.now))) (first_open (word_rules.answer cell.now) (λ (q : Question). Some q) (joined (λ i. ask i (fibre word.now places.now (suc i))) (length cell.now))) }
+    ensures { IsWholeStep result (all_of (word_rules.known cell.now) (joined (λ i. ask i (fibre word.now places.now (suc i))) (length cell.now))) (first_open (word_rules.known cell.now) (λ (q : Question). Some q) (joined (λ i. ask i (fibre word.now places.now (suc i))) (length cell.now))) }
 {
     let mut step = WordStep::Holds;
     for child in 0..cell.len() {
@@ -122,7 +122,7 @@ fn some_step(root: &Perm, word: &Perm, cell: &SplitBox) -> WordStep
     requires small { length root.now ≤ MAX_ROOT_LENGTH }
     requires short { length word.now ≤ MAX_PATTERN_LENGTH }
     requires sized { length cell.now ≡ length root.now }
-    ensures { IsWordStep result (some_of (all_of (word_rules.answer cell.now)) (map (questions root.now word.now) (embeddings root.now word.now))) (first_open (all_of (word_rules.answer cell.now)) (λ (m : List Question). first_open (word_rules.answer cell.now) (λ (q : Question). Some q) m) (map (questions root.now word.now) (embeddings root.now word.now))) }
+    ensures { IsWordStep result (some_of (all_of (word_rules.known cell.now)) (map (questions root.now word.now) (embeddings root.now word.now))) (first_open (all_of (word_rules.known cell.now)) (λ (m : List Question). first_open (word_rules.known cell.now) (λ (q : Question). Some q) m) (map (questions root.now word.now) (embeddings root.now word.now))) }
 {
     // Its length tells that it is a word.
     let _len = word.len();
@@ -143,7 +143,7 @@ fn demand_step(root: &Perm, required: bool, word: &Perm, cell: &SplitBox) -> Wor
     requires small { length root.now ≤ MAX_ROOT_LENGTH }
     requires short { length word.now ≤ MAX_PATTERN_LENGTH }
     requires sized { length cell.now ≡ length root.now }
-    ensures { IsWordStep result (demand_known (word_rules.answer cell.now) (demand root.now required word.now)) (first_open (all_of (word_rules.answer cell.now)) (λ (m : List Question). first_open (word_rules.answer cell.now) (λ (q : Question). Some q) m) (map (questions root.now word.now) (embeddings root.now word.now))) }
+    ensures { IsWordStep result (demand_known (word_rules.known cell.now) (demand root.now required word.now)) (first_open (all_of (word_rules.known cell.now)) (λ (m : List Question). first_open (word_rules.known cell.now) (λ (q : Question). Some q) m) (map (questions root.now word.now) (embeddings root.now word.now))) }
 {
     turned_step(required, some_step(root, word, cell))
 }
@@ -216,7 +216,7 @@ pub fn advise(root: &Perm, name: &Name, cell: &SplitBox) -> Advice
     requires avoid { All (λ w. length w ≤ MAX_PATTERN_LENGTH) name.now.avoid }
     requires require { All (λ w. length w ≤ MAX_PATTERN_LENGTH) name.now.require }
     requires sized { length cell.now ≡ length root.now }
-    ensures { IsAdvice result (demands_known (word_rules.answer cell.now) (demands root.now name.now.avoid name.now.require)) (next_question (word_rules.answer cell.now) (demands root.now name.now.avoid name.now.require)) }
+    ensures { IsAdvice result (demands_known (word_rules.known cell.now) (demands root.now name.now.avoid name.now.require)) (next_question (word_rules.known cell.now) (demands root.now name.now.avoid name.now.require)) }
 {
     // Their lengths tell that these are words.
     let _avoid = name.avoid.len();

@@ -1,7 +1,7 @@
 // Boxes that are cut by hand, as they are advised, against the split.
 use crate::tests::{SYSTEMS, can_split, name, same_box, word};
 use crate::{Advice, BoxList, SplitBox, advise, split};
-use av_name::{Known, answer};
+use av_name::{Known, known_of};
 use av_perm::{Memory, Perm};
 use av_sys::Name;
 use std::alloc::Global;
@@ -17,7 +17,7 @@ fn parts(
     if child < 1 || child > cell.len() {
         return Ok(None);
     }
-    if answer(cell.get(child - 1), pattern) != Known::Open {
+    if known_of(cell.get(child - 1), pattern) != Known::Open {
         return Ok(None);
     }
     let avoiding = cell.avoiding(alloc, child, pattern)?;

@@ -15,13 +15,13 @@ use av_sys::Constraint;
 use std::alloc::Global;
 use std::marker::Model;
 
-/// A row of answers.
+/// Which of the patterns a word contains.
 #[derive(Drop)]
-pub struct Answers {
+pub struct ContainmentRow {
     items: Vec<bool>,
 }
 
-impl Model for Answers {
+impl Model for ContainmentRow {
     ghost use Rattle.std.specs.Prelude.{List, Bool};
 
     ghost Value = { List Bool };
@@ -29,8 +29,8 @@ impl Model for Answers {
     ghost view = { λ a. a.items.items };
 }
 
-impl Answers {
-    // The answer at an index.
+impl ContainmentRow {
+    // Whether it contains the pattern at an index.
     fn get(&self, i: usize) -> bool
         requires { i < length self.now }
         ensures { result ≡ get_or self.now i false }
@@ -40,23 +40,23 @@ impl Answers {
 }
 
 // Which patterns the word contains.
-fn answers_of(alloc: Global, word: &Perm, patterns: &Patterns) -> Result<Answers, Memory>
+fn row_of(alloc: Global, word: &Perm, patterns: &Patterns) -> Result<ContainmentRow, Memory>
     ensures { IfOk result (λ a. a ≡ map (contains word.now) patterns.now) }
 {
     let mut items = Vec::new(alloc);
     for pattern in patterns.as_slice() {
         items.push(contains(word, pattern)).map_err(|_| Memory)?;
     }
-    Ok(Answers { items })
+    Ok(ContainmentRow { items })
 }
 
 // A row for each pattern: which of them it contains.
-fn containments_of(alloc: Global, patterns: &Patterns) -> Result<Vec<Answers>, Memory>
+fn containments_of(alloc: Global, patterns: &Patterns) -> Result<Vec<ContainmentRow>, Memory>
     ensures { IfOk result (λ rows. rows.items ≡ containments_of patterns.now) }
 {
     let mut rows = Vec::new(alloc);
     for word in patterns.as_slice() {
-        rows.push(answers_of(alloc, word, patterns)?)
+        rows.push(row_of(alloc, word, patterns)?)
             .map_err(|_| Memory)?;
     }
     Ok(rows)
@@ -67,7 +67,7 @@ fn containments_of(alloc: Global, patterns: &Patterns) -> Result<Vec<Answers>, M
 pub struct Table {
     patterns: Patterns,
     // A row for each pattern: which of them it contains.
-    rows: Vec<Answers>,
+    rows: Vec<ContainmentRow>,
     // Their numbers in shortlex order.
     order: Vec<usize>,
 }

@@ -134,11 +134,11 @@ treatment_cases stuck = inr (inr refl)
 module _ {B Q : Type 0} (r : Rules B Q) (Fine : B → Type 0) (Apt : Q → Type 0) (law : Lawful r Fine Apt) (ds : List (Demand Q)) (ts : List (List (Literal Q))) (apt : Each Apt (questions_with ds ts)) where
   -- how many questions are open in a box
   abbrev pub open_in : B → ℕ
-  open_in b = open_count (r.answer b) (questions_with ds ts)
+  open_in b = open_count (r.known b) (questions_with ds ts)
 
   -- a part has fewer
-  pub falls : (w : Bool) (b : B) (q : Q) → Fine b → In q (questions_with ds ts) → r.answer b q ≡ Open → open_in (r.settle w b q) < open_in b
-  falls w b q f i e = open_count_less (r.answer (r.settle w b q)) (r.answer b) (questions_with ds ts) q (λ p j k. law.keeps w b q p f (apt q i) (apt p j) e k) i e (law.settles w b q f (apt q i) e)
+  pub falls : (w : Bool) (b : B) (q : Q) → Fine b → In q (questions_with ds ts) → r.known b q ≡ Open → open_in (r.settle w b q) < open_in b
+  falls w b q f i e = open_count_less (r.known (r.settle w b q)) (r.known b) (questions_with ds ts) q (λ p j k. law.keeps w b q p f (apt q i) (apt p j) e k) i e (law.settles w b q f (apt q i) e)
 
   -- what the two parts of a box give
   abbrev parts : ℕ → B → Q → List (Leaf B)
@@ -155,21 +155,21 @@ module _ {B Q : Type 0} (r : Rules B Q) (Fine : B → Type 0) (Apt : Q → Type 
   walk_enough : (d : ℕ) (b : B) → Fine b → open_in b ≤ d → walk_by r ds ts (suc d) b ≡ walk_by r ds ts d b
   walk_enough zero b f h = elim (treatment_cases (treatment r ds ts b)) [
     | inl k ↦ walk_ends 1 b k.0 k.1 ∙ sym (walk_ends 0 b k.0 k.1)
-    | inr (inl k) ↦ let a = splits_asked (r.answer b) ds ts k.0 k.1 in absurd (omega (arith, falls false b k.0 f a.1 a.0))
-    | inr (inr k) ↦ absurd (never_stuck (r.answer b) ds ts k)
+    | inr (inl k) ↦ let a = splits_asked (r.known b) ds ts k.0 k.1 in absurd (omega (arith, falls false b k.0 f a.1 a.0))
+    | inr (inr k) ↦ absurd (never_stuck (r.known b) ds ts k)
   ]
   walk_enough (suc d) b f h = elim (treatment_cases (treatment r ds ts b)) [
     | inl k ↦ walk_ends (suc (suc d)) b k.0 k.1 ∙ sym (walk_ends (suc d) b k.0 k.1)
     | inr (inl k) ↦
         let q : Q = k.0 in
-        let a = splits_asked (r.answer b) ds ts q k.1 in
+        let a = splits_asked (r.known b) ds ts q k.1 in
         let p = apt q a.1 in
         walk_splits (suc d) b q k.1
         ∙ ap₂ (λ x y. x ++ y)
         (walk_enough d (r.settle false b q) (law.fine false b q f p a.0) (omega (arith, falls false b q f a.1 a.0)))
         (walk_enough d (r.settle true b q) (law.fine true b q f p a.0) (omega (arith, falls true b q f a.1 a.0)))
         ∙ sym (walk_splits d b q k.1)
-    | inr (inr k) ↦ absurd (never_stuck (r.answer b) ds ts k)
+    | inr (inr k) ↦ absurd (never_stuck (r.known b) ds ts k)
   ]
 
   walk_same : (j d : ℕ) (b : B) → Fine b → open_in b ≤ d → walk_by r ds ts (j + d) b ≡ walk_by r ds ts d b
@@ -177,7 +177,7 @@ module _ {B Q : Type 0} (r : Rules B Q) (Fine : B → Type 0) (Apt : Q → Type 
   walk_same (suc j) d b f h = let e : suc j + d ≡ suc (j + d) = omega arith in ap (λ n. walk_by r ds ts n b) e ∙ walk_enough (j + d) b f (omega arith) ∙ walk_same j d b f h
 
   few_open : (b : B) → open_in b ≤ walk_questions ds ts
-  few_open b = omega (arith, open_count_length (r.answer b) (questions_with ds ts), questions_length ds ts)
+  few_open b = omega (arith, open_count_length (r.known b) (questions_with ds ts), questions_length ds ts)
 
   -- a box that ends
   pub walk_leaf_only : (b : B) (x : Ending) → treatment r ds ts b ≡ ends x → walk r ds ts b ≡ record { cell = b; ending = x } ∷ []
@@ -187,7 +187,7 @@ module _ {B Q : Type 0} (r : Rules B Q) (Fine : B → Type 0) (Apt : Q → Type 
   pub walk_parts : (b : B) (q : Q) → Fine b → treatment r ds ts b ≡ splits q → walk r ds ts b ≡ walk r ds ts (r.settle false b q) ++ walk r ds ts (r.settle true b q)
   walk_parts b q f e =
       let n : ℕ = walk_questions ds ts in
-      let i = splits_asked (r.answer b) ds ts q e in
+      let i = splits_asked (r.known b) ds ts q e in
       let p = apt q i.1 in
       let a = falls false b q f i.1 i.0 in
       let c = falls true b q f i.1 i.0 in

@@ -22,7 +22,7 @@ settled_open : (done : Bool) → settled done ≡ Open → ⊥
 settled_open true e = inside_open e
 settled_open false e = outside_open e
 
--- of cells of numbered patterns, in a box with answers `f` and its part in which a pattern is required, or avoided, with `g`
+-- of cells of numbered patterns, in a box where `f` is known and its part in which a pattern is required, or avoided, with `g`
 module _ (r : Bool) (k : ℕ) (ps : List (List ℕ)) (f g : Cell → Known) (next : (cell : Cell) → cell.pattern < length ps → (t : Bool) × (g cell ≡ once r t (f cell))) where
   cell_stays : (cell : Cell) → cell.pattern < length ps → (known : Known) → (known ≡ Open → ⊥) → f cell ≡ known → g cell ≡ known
   cell_stays cell h known n e = let t = next cell h in t.1 ∙ once_keeps r t.0 (f cell) known n e

@@ -1,4 +1,4 @@
--- What becomes of a box, by cells and by questions: the same where the answers are.
+-- What becomes of a box, by cells and by questions: the same where what is known is.
 use Rattle.std.proofs.Common.{◌≡◌, ℕ, zero, suc, List, [], ◌∷◌, Option, Some, None, refl, sym, ap, ap₂, subst}
 use Rattle.av_name.specs.declared.constraints.Known.{Known}
 use Rattle.av_name.specs.declared.constraints.Known.TheVariants.{Inside, Outside, Open}

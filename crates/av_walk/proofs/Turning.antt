@@ -41,7 +41,7 @@ Finds (Some end) before after = (l : Leaf Box) × IsEnd end l × (before ≡ l �
 -- the weights of some boxes together
 abbrev pub weights : List (Demand Question) → List (List (Literal Question)) → List Box → ℕ
 weights es us [] = 0
-weights es us (b ∷ bs) = weight (open_count (word_rules.answer b) (questions_with es us)) + weights es us bs
+weights es us (b ∷ bs) = weight (open_count (word_rules.known b) (questions_with es us)) + weights es us bs
 
 -- the demands and the terms by cells and by questions, which are of `k` children
 module _ (k : ℕ) (ps : List (List ℕ)) (ds : List (Demand Cell)) (es : List (Demand Question)) (asked : AreDemandsOf k ps ds es) (ts : List (List (Literal Cell))) (us : List (List (Literal Question))) (terms : AreTermsOf k ps ts us) (apt : Each (Apt k) (questions_with es us)) where
@@ -59,19 +59,19 @@ module _ (k : ℕ) (ps : List (List ℕ)) (ds : List (Demand Cell)) (es : List (
   module _ (rows : List (List Mark)) (is : AreRows k ps rows) where
     -- what becomes of it is the same by questions
     becomes : TreatmentOf k ps (treatment_at (known_at rows) ds ts) (treatment word_rules es us (box_of ps rows))
-    becomes = treatment_same k ps (known_at rows) (word_rules.answer (box_of ps rows)) (λ cell q i. cell_known k ps rows cell q is i) ds es ts us asked terms
+    becomes = treatment_same k ps (known_at rows) (word_rules.known (box_of ps rows)) (λ cell q i. cell_known k ps rows cell q is i) ds es ts us asked terms
 
     -- the cell that cuts it, with its question
     record Asked (cell : Cell) : Type 0 where
       cell_is : IsQuestionOf k ps cell (question_at ps cell)
       cuts : treatment word_rules es us (box_of ps rows) ≡ splits (question_at ps cell)
-      unknown : word_rules.answer (box_of ps rows) (question_at ps cell) ≡ Open
+      unknown : word_rules.known (box_of ps rows) (question_at ps cell) ≡ Open
       there : In (question_at ps cell) (questions_with es us)
 
     asked_at : (cell : Cell) → treatment_at (known_at rows) ds ts ≡ splits cell → Asked cell
     asked_at cell e =
         let s = same_split k ps (treatment_at (known_at rows) ds ts) (treatment word_rules es us (box_of ps rows)) cell becomes e in
-        let a = splits_asked (word_rules.answer (box_of ps rows)) es us (question_at ps cell) s.1 in
+        let a = splits_asked (word_rules.known (box_of ps rows)) es us (question_at ps cell) s.1 in
         record { cell_is = s.0; cuts = s.1; unknown = a.0; there = a.1 }
 
     can_enter : (cell : Cell) → Asked cell → CanEnter ps rows cell
@@ -191,7 +191,7 @@ module _ (k : ℕ) (ps : List (List ℕ)) (ds : List (Demand Cell)) (es : List (
               h,
               ap₂ (λ (x y : List (Leaf Box)). x ++ y) (walk_leaf_only word_rules (Fine k) (Apt k) (word_law k) es us apt b (ending_of kind) t) (ap (flat_map (walk word_rules es us)) (sym r.1)),
             );
-            less = let w = ap (weights es us) r.1 in omega (arith, w, weight_some (open_count (word_rules.answer b) (questions_with es us)));
+            less = let w = ap (weights es us) r.1 in omega (arith, w, weight_some (open_count (word_rules.known b) (questions_with es us)));
           }
 
       cut : (cell : Cell) (state : State) → IsCut k ps ds ts p.rows.items state cell → (q : Path) → next ≡ Some q → found ≡ None → IsEntered false ps cell state p.rows.items (reverse p.turns.items) q → Advanced (parts_of ps (Some p)) next found
@@ -213,7 +213,7 @@ module _ (k : ℕ) (ps : List (List ℕ)) (ds : List (Demand Cell)) (es : List (
                 omega (
                   arith,
                   w,
-                  weight_two (open_count (word_rules.answer (part false)) (questions_with es us)) (open_count (word_rules.answer (part true)) (questions_with es us)) (open_count (word_rules.answer b) (questions_with es us))
+                  weight_two (open_count (word_rules.known (part false)) (questions_with es us)) (open_count (word_rules.known (part true)) (questions_with es us)) (open_count (word_rules.known b) (questions_with es us))
                       (falls word_rules (Fine k) (Apt k) (word_law k) es us apt false b (question_at ps cell) fine a.there a.unknown)
                       (falls word_rules (Fine k) (Apt k) (word_law k) es us apt true b (question_at ps cell) fine a.there a.unknown),
                 );

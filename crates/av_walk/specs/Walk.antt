@@ -74,7 +74,7 @@ treated Open k o n = open_cell n
 
 -- what becomes of a box
 abbrev pub treatment : {B Q : Type 0} → Rules B Q → List (Demand Q) → List (List (Literal Q)) → B → Treatment Q
-treatment r ds ts b = treated (demands_known (r.answer b) ds) (inside_count (r.answer b) ts) (next_of_terms (r.answer b) ts) (next_question (r.answer b) ds)
+treatment r ds ts b = treated (demands_known (r.known b) ds) (inside_count (r.known b) ts) (next_of_terms (r.known b) ts) (next_question (r.known b) ds)
 
 -- a cell where the walk ends
 pub record Leaf (B : Type 0) : Type 0 where

@@ -1,6 +1,6 @@
 // The walk as it is defined: on boxes that are copied at each cut, in which all terms are looked at.
 use crate::tests::{Seen, can_walk};
-use av_name::{Known, answer};
+use av_name::{Known, known_of};
 use av_perm::{MAX_ROOT_LENGTH, Memory, Perm, Words};
 use av_split::{Advice, SplitBox, advise};
 use av_sys::{Children, Equation, System, Term};
@@ -19,7 +19,7 @@ fn words_step(cell: &SplitBox, child: usize, required: bool, words: &Words, befo
     let mut step = before;
     for word in words.as_slice() {
         let known = if child < cell.len() {
-            answer(cell.get(child), word)
+            known_of(cell.get(child), word)
         } else {
             Known::Open
         };
@@ -131,7 +131,7 @@ fn split(
     word: &Perm,
     left: &mut Vec<SplitBox>,
 ) -> Result<bool, Memory> {
-    if child >= cell.len() || answer(cell.get(child), word) != Known::Open {
+    if child >= cell.len() || known_of(cell.get(child), word) != Known::Open {
         return Ok(false);
     }
     let child = child + 1;

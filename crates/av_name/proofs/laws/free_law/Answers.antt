@@ -1,5 +1,5 @@
 -- The law of the free constraint.
-use Rattle.av_name.proofs.Answered.{free_law}
+use Rattle.av_name.proofs.KnownPatterns.{free_law}
 use Rattle.av_name.proofs.laws.free_law.Goals as goal
 
 pub returns : goal.returns

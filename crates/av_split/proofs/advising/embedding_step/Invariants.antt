@@ -8,4 +8,4 @@ use Rattle.av_split.specs.Gathering.{IsWholeStep}
 use Rattle.av_split.proofs.advising.embedding_step.Given as goal
 
 abbrev pub invariant-loop-child : goal.invariant-loop-child
-invariant-loop-child l = IsWholeStep l.step (all_of (word_rules.answer l.cell) (joined (λ i. ask i (fibre l.word l.places (suc i))) l.child)) (first_open (word_rules.answer l.cell) (λ (q : Question). Some q) (joined (λ i. ask i (fibre l.word l.places (suc i))) l.child))
+invariant-loop-child l = IsWholeStep l.step (all_of (word_rules.known l.cell) (joined (λ i. ask i (fibre l.word l.places (suc i))) l.child)) (first_open (word_rules.known l.cell) (λ (q : Question). Some q) (joined (λ i. ask i (fibre l.word l.places (suc i))) l.child))

@@ -10,6 +10,6 @@ use Rattle.av_split.proofs.advising.some_step.Given as goal
 abbrev pub invariant-loop-places : goal.invariant-loop-places
 invariant-loop-places l = record {
   all : l.yielded ++ l.places-iterator ≡ embeddings l.root l.word;
-  so : SomeSo (all_of (word_rules.answer l.cell)) (λ (m : List Question). first_open (word_rules.answer l.cell) (λ (q : Question). Some q) m) (question_asked l.found)
+  so : SomeSo (all_of (word_rules.known l.cell)) (λ (m : List Question). first_open (word_rules.known l.cell) (λ (q : Question). Some q) m) (question_asked l.found)
       (map (questions l.root l.word) (embeddings l.root l.word)) (map (questions l.root l.word) l.places-iterator);
 }

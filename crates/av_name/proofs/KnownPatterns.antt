@@ -1,4 +1,4 @@
--- When each answer comes, and what it says of the region.
+-- When something is known of a pattern, and what it says of the region.
 use Rattle.std.proofs.Common.{◌≡◌, ℕ, ◌≤◌, inl, inr, ◌↔◌, List, length, Bool, true, false, eqb, eq-eqb, refl, arith}
 use Rattle.std.specs.List.{list_any}
 use Rattle.std.proofs.lemmas.Bool.{or_cases, or_left, or_right, eqb-true}
@@ -11,8 +11,8 @@ use Rattle.av_perm.proofs.Containment.{contains_one, contains_trans}
 use Rattle.av_sys.specs.declared.names.Constraint.{Constraint}
 use Rattle.av_sys.specs.Names.{Meets}
 use Rattle.av_name.specs.declared.constraints.Known.TheVariants.{Inside, Outside, Open}
-use Rattle.av_name.specs.Constraints.{free, is_required, is_avoided, known_by, answer, IsClean}
-use Rattle.av_name.specs.Laws.{IsRequired, IsAvoided, AnswerLaw, FreeLaw}
+use Rattle.av_name.specs.Constraints.{free, is_required, is_avoided, known_by, known_of, IsClean}
+use Rattle.av_name.specs.Laws.{IsRequired, IsAvoided, KnownLaw, FreeLaw}
 
 -- the pattern contains some avoided word
 abbrev pub HasAvoided : Constraint → List ℕ → Type 0
@@ -38,7 +38,7 @@ avoided_from c p e = let r = any_from (λ a. contains p a) c.avoid e in (r.0, r.
 pub avoided_to : (c : Constraint) (p : List ℕ) → HasAvoided c p → is_avoided c p ≡ true
 avoided_to c p r = any_to (λ a. contains p a) c.avoid r.0 r.1 (contains_to p r.0 r.2)
 
--- the tests at each answer
+-- the tests at what is known
 by_inside : (x y : Bool) → known_by x y ≡ Inside → x ≡ true
 by_inside true y e = refl
 by_inside false true e = absurd (cc)
@@ -64,28 +64,28 @@ by_open false true e = absurd (cc)
 by_open false false e = (λ h. cc, λ h. cc)
 
 -- `Inside` comes exactly for what is required
-pub inside_is : (c : Constraint) (p : List ℕ) → (answer c p ≡ Inside) ↔ IsRequired c p
-unfolding answer
+pub inside_is : (c : Constraint) (p : List ℕ) → (known_of c p ≡ Inside) ↔ IsRequired c p
+unfolding known_of
 inside_is c p = (
   λ e. required_from c p (by_inside (is_required c p) (is_avoided c p) e),
   λ r. inside_by (is_required c p) (is_avoided c p) (required_to c p r),
 )
 
 -- `Outside` comes exactly for what has an avoided word, and is not required
-pub outside_is : (c : Constraint) (p : List ℕ) → (answer c p ≡ Outside) ↔ ((IsRequired c p → ⊥) × HasAvoided c p)
-unfolding answer
+pub outside_is : (c : Constraint) (p : List ℕ) → (known_of c p ≡ Outside) ↔ ((IsRequired c p → ⊥) × HasAvoided c p)
+unfolding known_of
 outside_is c p = (
   λ e. let b = by_outside (is_required c p) (is_avoided c p) e in (λ r. b.0 (required_to c p r), avoided_from c p b.1),
   λ h. outside_by (is_required c p) (is_avoided c p) (λ e. h.0 (required_from c p e)) (avoided_to c p h.1),
 )
 
 -- `Open` comes for neither
-pub open_is : (c : Constraint) (p : List ℕ) → answer c p ≡ Open → (IsRequired c p → ⊥) × (HasAvoided c p → ⊥)
-unfolding answer
+pub open_is : (c : Constraint) (p : List ℕ) → known_of c p ≡ Open → (IsRequired c p → ⊥) × (HasAvoided c p → ⊥)
+unfolding known_of
 open_is c p e = let b = by_open (is_required c p) (is_avoided c p) e in (λ r. b.0 (required_to c p r), λ h. b.1 (avoided_to c p h))
 
 -- each word of the region contains what is required
-pub inside_says : (c : Constraint) (p σ : List ℕ) → 1 ≤ length σ → Meets c.avoid c.require σ → answer c p ≡ Inside → Contains σ p
+pub inside_says : (c : Constraint) (p σ : List ℕ) → 1 ≤ length σ → Meets c.avoid c.require σ → known_of c p ≡ Inside → Contains σ p
 inside_says c p σ n m e = into ((inside_is c p).0 e)
   where
     into : IsRequired c p → Contains σ p
@@ -93,7 +93,7 @@ inside_says c p σ n m e = into ((inside_is c p).0 e)
     into (inr s) = contains_trans σ s.0 p (m.contains s.0 s.1) s.2
 
 -- and no word of it what has an avoided word
-pub outside_says : (c : Constraint) (p σ : List ℕ) → Meets c.avoid c.require σ → answer c p ≡ Outside → Avoids σ p
+pub outside_says : (c : Constraint) (p σ : List ℕ) → Meets c.avoid c.require σ → known_of c p ≡ Outside → Avoids σ p
 outside_says c p σ m e k = let h = ((outside_is c p).0 e).1 in m.avoids h.0 h.1 (contains_trans σ p h.0 k h.2)
 
 -- where no required word has an avoided word, neither has what is required, but for the word 1
@@ -105,9 +105,9 @@ not_both c p t a (inr s) = t s.0 a.1.0 s.1 a.1.1 (contains_trans s.0 p a.1.0 s.2
 not_one : (c : Constraint) (p : List ℕ) → IsWord p → (IsRequired c p → ⊥) → 2 ≤ length p
 not_one c p w n = let one : length p ≡ 1 → ⊥ = λ q. n (inl q) in omega (arith, w.filled, one)
 
--- the law of answers
-pub answer_law : AnswerLaw
-answer_law c p w = record {
+-- the law of what is known
+pub known_law : KnownLaw
+known_law c p w = record {
   inside = inside_is c p;
   outside = λ t. (
     λ e. let h = (outside_is c p).0 e in (not_one c p w h.0, h.1),
