@@ -23,7 +23,7 @@ use Rattle.av_build.proofs.BareSystems.{void_none, bare_named, class_cases}
 use Rattle.av_build.proofs.Pointwise.{same_length, beside, before, flipped, chained}
 use Rattle.av_build.proofs.TermsStand.{Numbered, Stands}
 use Rattle.av_build.proofs.Growing.{Canonical, canonical, NameAt, get_In}
-use Rattle.av_build.proofs.DraftMeanings.{BlocksMean, Fits, IsRootDraft, root_draft_is, names_count, draft_root, node_sound, point_sound, fits_some}
+use Rattle.av_build.proofs.DraftMeanings.{BlocksMean, HasShape, IsRootDraft, root_draft_is, names_count, draft_root, node_sound, point_sound, some_shape}
 use Rattle.av_build.proofs.DraftsApart.{apart_same, drafts_apart}
 use Rattle.av_sys.proofs.Subtrees.{IsEquation, equation_term}
 use Rattle.av_build.proofs.TermLaws.{MeanAt, FitsTerm, IsTermAt, IsServed, IsRight, mean_at_blocks, at_means, means_at, term_equation, child_shorter, right_up_to}
@@ -37,14 +37,14 @@ mean_numbered : (S : System) (cs : List ℕ) (ns : List Name) (αs : List (List 
 mean_numbered S cs ns αs = chained (NameAt S) Means (MeansAt S) (λ c n α k m. means_at S c k.0 α k.1 (subst (λ x. Means x α) (sym k.2) m)) cs ns αs
 
 -- a word of the shape of a term has that of its draft
-term_fits : (S : System) (w : List ℕ) (x : Term) (y : Draft) → Stands (NameAt S) x y → FitsTerm S w x → Fits w y
+term_fits : (S : System) (w : List ℕ) (x : Term) (y : Draft) → Stands (NameAt S) x y → FitsTerm S w x → HasShape w y
 term_fits S w Point point s f = f
 term_fits S w Point (node root ns) s f = absurd s
 term_fits S w (Node root cs) point s f = absurd s
 term_fits S w (Node root cs) (node root' ns) s f = (f.0, subst (λ r. Decomposes w r f.0) s.0 f.1, blocks_mean S cs ns f.0 s.1 f.2)
 
 -- a word of the shape of a draft has that of its term
-pub fits_term : (S : System) (w : List ℕ) (x : Term) (y : Draft) → Stands (NameAt S) x y → Fits w y → FitsTerm S w x
+pub fits_term : (S : System) (w : List ℕ) (x : Term) (y : Draft) → Stands (NameAt S) x y → HasShape w y → FitsTerm S w x
 fits_term S w Point point s f = f
 fits_term S w Point (node root ns) s f = absurd s
 fits_term S w (Node root cs) point s f = absurd s
@@ -115,7 +115,7 @@ module _ (basis roots : List (List ℕ)) (name : Name) (S : System) (c : Canonic
       let b = has_draft u t y g in
       let z : b.equation ≡ a.equation = some_equation b.equation a.equation (sym b.here ∙ a.here) in
       let word = (at_means S u a.equation w a.here (term_sound u s x w f p)).word in
-      apart_same (Fits w) (drafts roots a.equation.name) s t a.draft b.draft (drafts_apart basis a.equation.name (c.over u a.equation a.here) w word roots simple o) a.at_draft
+      apart_same (HasShape w) (drafts roots a.equation.name) s t a.draft b.draft (drafts_apart basis a.equation.name (c.over u a.equation a.here) w word roots simple o) a.at_draft
       (subst (λ (e : Equation). slice_get (drafts roots e.name) t ≡ Some b.draft) z b.at_draft) (term_fits S w x a.draft a.stands p) (term_fits S w y b.draft b.stands q)
 
   -- the terms are right
@@ -142,7 +142,7 @@ module _ (basis roots : List (List ℕ)) (name : Name) (S : System) (c : Canonic
       by u w l None q k = absurd k
       by u w l (Some e) q k =
           let member = mean_class e.name w (c.over u e q) k in
-          let r = fits_some basis roots e.name w (c.over u e q) k (λ π s x. h.all π s (class_down basis w π member (record { numbers = s.numbers; filled = omega (arith, s.long) }) x) (omega (arith, contains_length w π x))) in
+          let r = some_shape basis roots e.name w (c.over u e q) k (λ π s x. h.all π s (class_down basis w π member (record { numbers = s.numbers; filled = omega (arith, s.long) }) x) (omega (arith, contains_length w π x))) in
           let t = before (Stands (NameAt S)) e.terms (drafts roots e.name) r.number r.draft (c.stands u e q) r.at_number in
           (r.number, t.0, equation_term S u r.number e q ∙ t.1, fits_term S w t.0 r.draft t.2 r.fits)
 

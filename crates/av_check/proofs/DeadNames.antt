@@ -18,7 +18,7 @@ use Rattle.av_build.specs.Laws.{IsNameOver}
 use Rattle.av_build.proofs.Pointwise.{before}
 use Rattle.av_build.proofs.TermsStand.{Stands}
 use Rattle.av_build.proofs.Growing.{Canonical, canonical, NameAt}
-use Rattle.av_build.proofs.DraftMeanings.{fits_some}
+use Rattle.av_build.proofs.DraftMeanings.{some_shape}
 use Rattle.av_build.proofs.AliveMarks.{tree_alive}
 use Rattle.av_build.proofs.TermLaws.{FitsTerm, IsTermAt, IsServed, means_at, reached}
 use Rattle.av_build.proofs.NameSystems.{fits_term}
@@ -36,7 +36,7 @@ class_served basis simples n S c h = record {
     by : (u : ℕ) (w : List ℕ) → InClass basis w → (o : Option Equation) → slice_get S.equations u ≡ o → MeansOf o w → (t : ℕ) × (x : Term) × IsTermAt S u t x × FitsTerm S w x
     by u w p None q m = absurd m
     by u w p (Some e) q m =
-        let r = fits_some [] simples e.name w (c.over u e q) m (λ π s k. h.all π s (class_down basis w π p (record { numbers = s.numbers; filled = omega (arith, s.long) }) k)) in
+        let r = some_shape [] simples e.name w (c.over u e q) m (λ π s k. h.all π s (class_down basis w π p (record { numbers = s.numbers; filled = omega (arith, s.long) }) k)) in
         let t = before (Stands (NameAt S)) e.terms (drafts simples e.name) r.number r.draft (c.stands u e q) r.at_number in
         (r.number, t.0, equation_term S u r.number e q ∙ t.1, fits_term S w t.0 r.draft t.2 r.fits)
 

@@ -9,7 +9,7 @@ use Rattle.av_perm.proofs.Inflations.{length_inflate, inflation_word}
 use Rattle.av_perm.proofs.RootWords.{root_word}
 use Rattle.av_perm.proofs.Parts.{parts_law}
 use Rattle.av_decomp.specs.RootTrees.{RootTrees, none, more, RootTree, point, joined, one_of}
-use Rattle.av_decomp.specs.Trees.{count, value_by, values, value, IsCanonicalRoot, IsCanonical, AreCanonical, IsTreeOf, tree_by, tree_up_to, dec}
+use Rattle.av_decomp.specs.Trees.{count, value_by, values, value, IsCanonicalRoot, IsCanonicalNode, AreCanonicalNodes, IsTreeOf, tree_by, tree_up_to, dec}
 use Rattle.av_decomp.specs.Laws.{TreeLaw}
 use Rattle.av_decomp.proofs.Decompositions.{parts_are, word_of_one, root_two, block_shorter}
 
@@ -50,12 +50,12 @@ one_word = record {
     one (suc s) h = absurd (omega arith)
 
 -- trees with canonical roots stand for words
-head_word : (root : Option (List ℕ)) (ts : RootTrees) → IsCanonical root ts → AllWords (values ts) → IsWord (value_by root (values ts))
+head_word : (root : Option (List ℕ)) (ts : RootTrees) → IsCanonicalNode root ts → AllWords (values ts) → IsWord (value_by root (values ts))
 head_word None ts c f = one_word
 head_word (Some π) ts c f = inflation_word π (values ts) (root_is_word π ts c) (node_blocks π ts c f)
 
 -- so do all trees of a list
-pub values_words : (ts : RootTrees) → AreCanonical ts → AllWords (values ts)
+pub values_words : (ts : RootTrees) → AreCanonicalNodes ts → AllWords (values ts)
 values_words none c i l = absurd (omega arith)
 values_words (more root blocks others) c zero l = head_word root blocks c.0 (values_words blocks c.1)
 values_words (more root blocks others) c (suc i) l = values_words others c.2 i (omega arith)
@@ -89,7 +89,7 @@ abbrev put : RootTree → RootTrees → RootTrees
 put t ts = more t.root t.blocks ts
 
 -- trees with canonical roots are those computed of their words
-trees_are : (ts : RootTrees) (d : ℕ) → AreCanonical ts → ((i : ℕ) → i < length (values ts) → length (block (values ts) i) ≤ d) → ts ≡ joined (map (tree_up_to d) (values ts))
+trees_are : (ts : RootTrees) (d : ℕ) → AreCanonicalNodes ts → ((i : ℕ) → i < length (values ts) → length (block (values ts) i) ≤ d) → ts ≡ joined (map (tree_up_to d) (values ts))
 trees_are none d c f = refl
 trees_are (more root blocks others) zero c f = let w = head_word root blocks c.0 (values_words blocks c.1) in absurd (omega (arith, w.filled, f 0 (omega arith)))
 trees_are (more None blocks others) (suc d) c f =
@@ -125,7 +125,7 @@ values_back d [] f = refl
 values_back d (α ∷ αs) f = ap₂ (λ (v : List ℕ) (vs : List (List ℕ)). v ∷ vs) (f 0 (omega arith)).word (values_back d αs (λ i l. f (suc i) (omega arith)))
 
 -- and have canonical roots
-canonical_all : (d : ℕ) (αs : List (List ℕ)) → ((i : ℕ) → i < length αs → IsTreeOf (block αs i) (tree_up_to d (block αs i))) → AreCanonical (joined (map (tree_up_to d) αs))
+canonical_all : (d : ℕ) (αs : List (List ℕ)) → ((i : ℕ) → i < length αs → IsTreeOf (block αs i) (tree_up_to d (block αs i))) → AreCanonicalNodes (joined (map (tree_up_to d) αs))
 canonical_all d [] f = tt
 canonical_all d (α ∷ αs) f = ((f 0 (omega arith)).top, (f 0 (omega arith)).below, canonical_all d αs (λ i l. f (suc i) (omega arith)))
 

@@ -6,7 +6,7 @@ use Rattle.av_perm.specs.Relations.{at, IsWord, block, raised, joined as pieces_
 use Rattle.av_perm.proofs.Inflations.{lengths, lengths_sum, length_inflate, inflation_word}
 use Rattle.av_perm.proofs.InflationSteps.{below_more, joined_more}
 use Rattle.av_decomp.specs.RootTrees.{RootTrees, none, more, RootTree, joined, trees_of, nodes, all_of}
-use Rattle.av_decomp.specs.Trees.{root_length, value_by, values, value, FitsRoot, Fits, AreFormed, IsFormed, Keeps, IsCanonical, AreCanonical, dec}
+use Rattle.av_decomp.specs.Trees.{root_length, value_by, values, value, FitsRoot, FitsNode, AreFormed, IsFormed, Keeps, IsCanonicalNode, AreCanonicalNodes, dec}
 use Rattle.av_decomp.proofs.DecompositionTrees.{AllWords, tree_law, count_joined, length_values, one_word, root_is_word}
 use Rattle.av_decomp.proofs.Decompositions.{root_two}
 
@@ -97,7 +97,7 @@ pub record IsNode (π : List ℕ) (ts : List RootTree) (t : RootTree) : Type 0 w
 -- a tree with a root keeps it
 pub node_of : (root : Option (List ℕ)) (π : List ℕ) (ts : List RootTree) (t : RootTree) → IsFormed (record { root = root; blocks = joined ts }) → root ≡ Some π → record { root = root; blocks = joined ts } ≡ t → IsNode π ts t
 node_of root π ts t h e q =
-    let f : FitsRoot π (joined ts) = subst (λ r. Fits r (joined ts)) e h.top in
+    let f : FitsRoot π (joined ts) = subst (λ r. FitsNode r (joined ts)) e h.top in
     let n : length ts ≡ length π = sym (count_joined ts) ∙ f.blocks in
     let w : value t ≡ inflate π (map value ts) = ap value (sym q) ∙ ap (λ r. value_by r (values (joined ts))) e ∙ ap (inflate π) (values_joined ts) in
     let l : length (value t) ≡ sum_by length (map value ts) = ap (λ (v : List ℕ). length v) w ∙ length_inflate π (map value ts) (length-map ts value ∙ n) ∙ lengths_sum (map value ts) in
@@ -120,13 +120,13 @@ nodes_less root ts k t s h e q =
     omega arith
 
 -- a tree has as many blocks as its root is long
-pub formed_length : (root : Option (List ℕ)) (ts : List RootTree) → Fits root (joined ts) → length ts ≡ root_length root
+pub formed_length : (root : Option (List ℕ)) (ts : List RootTree) → FitsNode root (joined ts) → length ts ≡ root_length root
 formed_length None [] h = refl
 formed_length None (t ∷ ts) h = absurd (cc)
 formed_length (Some π) ts h = sym (count_joined ts) ∙ h.blocks
 
 -- a formed tree stands for a word
-formed_head : (root : Option (List ℕ)) (ts : RootTrees) → Fits root ts → AllWords (values ts) → IsWord (value_by root (values ts))
+formed_head : (root : Option (List ℕ)) (ts : RootTrees) → FitsNode root ts → AllWords (values ts) → IsWord (value_by root (values ts))
 formed_head None ts h f = one_word
 formed_head (Some π) ts h f = inflation_word π (values ts) h.word (record {
   count = length_values ts ∙ h.blocks;
@@ -145,12 +145,12 @@ pub formed_word : (t : RootTree) → IsFormed t → IsWord (value t)
 formed_word t h = formed_head t.root t.blocks h.top (formed_words t.blocks h.below)
 
 -- a decomposition tree is formed
-canonical_fits : (root : Option (List ℕ)) (ts : RootTrees) → IsCanonical root ts → Fits root ts
+canonical_fits : (root : Option (List ℕ)) (ts : RootTrees) → IsCanonicalNode root ts → FitsNode root ts
 canonical_fits None ts h = h
 canonical_fits (Some π) ts h = record { word = root_is_word π ts h; two = root_two π (block (values ts) 0) h.root; blocks = h.blocks }
 
 -- canonical trees of a list are formed
-canonical_formed : (ts : RootTrees) → AreCanonical ts → AreFormed ts
+canonical_formed : (ts : RootTrees) → AreCanonicalNodes ts → AreFormed ts
 canonical_formed none h = tt
 canonical_formed (more root blocks others) h = (canonical_fits root blocks h.0, canonical_formed blocks h.1, canonical_formed others h.2)
 
@@ -183,7 +183,7 @@ joined_trees (more root blocks others) = ap (λ (os : RootTrees). more root bloc
 
 -- a tree has as many blocks as its root is long
 pub children_count : (t : RootTree) → IsFormed t → length (trees_of t.blocks) ≡ root_length t.root
-children_count t h = formed_length t.root (trees_of t.blocks) (subst (Fits t.root) (sym (joined_trees t.blocks)) h.top)
+children_count t h = formed_length t.root (trees_of t.blocks) (subst (FitsNode t.root) (sym (joined_trees t.blocks)) h.top)
 
 -- the tree of a block has fewer nodes
 pub child_less : (t s : RootTree) (i : ℕ) → i < length (trees_of t.blocks) → slice_get (trees_of t.blocks) i ≡ Some s → nodes s < nodes t

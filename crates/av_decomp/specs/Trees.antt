@@ -32,18 +32,18 @@ pub record FitsRoot (root : List ℕ) (trees : RootTrees) : Type 0 where
   pub blocks : count trees ≡ length root
 
 -- and a point has no blocks
-abbrev pub Fits : Option (List ℕ) → RootTrees → Type 0
-Fits None blocks = blocks ≡ none
-Fits (Some root) blocks = FitsRoot root blocks
+abbrev pub FitsNode : Option (List ℕ) → RootTrees → Type 0
+FitsNode None blocks = blocks ≡ none
+FitsNode (Some root) blocks = FitsRoot root blocks
 
 -- so at all levels of a list of trees
 abbrev pub AreFormed : RootTrees → Type 0
 AreFormed none = Unit {0}
-AreFormed (more root blocks others) = Fits root blocks × AreFormed blocks × AreFormed others
+AreFormed (more root blocks others) = FitsNode root blocks × AreFormed blocks × AreFormed others
 
 -- so at each level; a tree has as many points as its word is long, from 1 to MAX_LENGTH
 pub record IsFormed (t : RootTree) : Type 0 where
-  pub top : Fits t.root t.blocks
+  pub top : FitsNode t.root t.blocks
   pub below : AreFormed t.blocks
   pub few : length (value t) ≤ MAX_LENGTH
 
@@ -64,20 +64,20 @@ pub record IsCanonicalRoot (π : List ℕ) (trees : RootTrees) : Type 0 where
   pub root : IsRoot π (block (values trees) 0)
 
 -- and a point has no blocks
-abbrev pub IsCanonical : Option (List ℕ) → RootTrees → Type 0
-IsCanonical None blocks = blocks ≡ none
-IsCanonical (Some root) blocks = IsCanonicalRoot root blocks
+abbrev pub IsCanonicalNode : Option (List ℕ) → RootTrees → Type 0
+IsCanonicalNode None blocks = blocks ≡ none
+IsCanonicalNode (Some root) blocks = IsCanonicalRoot root blocks
 
 -- so at all levels of a list of trees
-abbrev pub AreCanonical : RootTrees → Type 0
-AreCanonical none = Unit {0}
-AreCanonical (more root blocks others) = IsCanonical root blocks × AreCanonical blocks × AreCanonical others
+abbrev pub AreCanonicalNodes : RootTrees → Type 0
+AreCanonicalNodes none = Unit {0}
+AreCanonicalNodes (more root blocks others) = IsCanonicalNode root blocks × AreCanonicalNodes blocks × AreCanonicalNodes others
 
 -- the decomposition tree of a word: it stands for the word, and the roots at all levels are such
 pub record IsTreeOf (σ : List ℕ) (t : RootTree) : Type 0 where
   pub word : value t ≡ σ
-  pub top : IsCanonical t.root t.blocks
-  pub below : AreCanonical t.blocks
+  pub top : IsCanonicalNode t.root t.blocks
+  pub below : AreCanonicalNodes t.blocks
 
 -- computed: the root and the blocks of the word, and the trees of the blocks
 abbrev pub tree_by : Option Parts → (List ℕ → RootTree) → RootTree

@@ -5,7 +5,7 @@ use Rattle.std.proofs.lemmas.List.{drop_all}
 use Rattle.std.specs.Io.KnownBytes.{Appends}
 use Rattle.std.specs.List.{join_by}
 use Rattle.av_decomp.specs.RootTrees.{RootTrees, none, more, RootTree, trees_of, nodes}
-use Rattle.av_decomp.specs.Trees.{root_length, Fits, IsFormed}
+use Rattle.av_decomp.specs.Trees.{root_length, FitsNode, IsFormed}
 use Rattle.av_decomp.proofs.FormedTrees.{children_count, child_less}
 use Rattle.av_print.specs.Text.{root_text, node_text, tree_texts, tree_text}
 use Rattle.av_print.specs.Wrote.{AppendsPart}
@@ -82,7 +82,7 @@ block_less t s k e = child_less t s k (omega (arith, (text_at t.blocks k s e).0,
 pub no_others : (t : RootTree) (held : Option (List ℕ)) → None ≡ t.root → IsFormed t → Appends held held (others_from t 1)
 unfolding tree_texts
 no_others t held e f =
-    let b : t.blocks ≡ none = subst (λ (r : Option (List ℕ)). Fits r t.blocks) (sym e) f.top in
+    let b : t.blocks ≡ none = subst (λ (r : Option (List ℕ)). FitsNode r t.blocks) (sym e) f.top in
     subst (λ (ts : RootTrees). Appends held held (flat_map after_comma (drop 1 (tree_texts ts)))) (sym b) (Appends-nil held)
 
 -- a block was written after a comma
