@@ -8,7 +8,7 @@ use Rattle.av_perm.specs.Parts.{parts}
 use Rattle.av_perm.proofs.Inflations.{length_inflate, inflation_word}
 use Rattle.av_perm.proofs.RootWords.{root_word}
 use Rattle.av_perm.proofs.Parts.{parts_law}
-use Rattle.av_decomp.specs.RootTrees.{RootTrees, none, more, RootTree, point, joined, one_of}
+use Rattle.av_decomp.specs.RootTrees.{RootTrees, none, more, RootTree, point, as_trees, one_of}
 use Rattle.av_decomp.specs.Trees.{count, value_by, values, value, IsCanonicalRoot, IsCanonicalNode, AreCanonicalNodes, IsTreeOf, tree_by, tree_up_to, dec}
 use Rattle.av_decomp.specs.Laws.{TreeLaw}
 use Rattle.av_decomp.proofs.Decompositions.{parts_are, word_of_one, root_two, block_shorter}
@@ -80,7 +80,7 @@ unfolding tree_up_to
 tree_one d = ap (λ p. tree_by p (λ α. tree_up_to d α)) no_parts
 
 -- the tree of a longer word, from its parts
-tree_node : (d : ℕ) (w π : List ℕ) (αs : List (List ℕ)) → parts w ≡ Some (record { root = π; blocks = αs }) → tree_up_to (suc d) w ≡ record { root = Some π; blocks = joined (map (tree_up_to d) αs) }
+tree_node : (d : ℕ) (w π : List ℕ) (αs : List (List ℕ)) → parts w ≡ Some (record { root = π; blocks = αs }) → tree_up_to (suc d) w ≡ record { root = Some π; blocks = as_trees (map (tree_up_to d) αs) }
 unfolding tree_up_to
 tree_node d w π αs e = ap (λ p. tree_by p (λ α. tree_up_to d α)) e
 
@@ -89,12 +89,12 @@ abbrev put : RootTree → RootTrees → RootTrees
 put t ts = more t.root t.blocks ts
 
 -- trees with canonical roots are those computed of their words
-trees_are : (ts : RootTrees) (d : ℕ) → AreCanonicalNodes ts → ((i : ℕ) → i < length (values ts) → length (block (values ts) i) ≤ d) → ts ≡ joined (map (tree_up_to d) (values ts))
+trees_are : (ts : RootTrees) (d : ℕ) → AreCanonicalNodes ts → ((i : ℕ) → i < length (values ts) → length (block (values ts) i) ≤ d) → ts ≡ as_trees (map (tree_up_to d) (values ts))
 trees_are none d c f = refl
 trees_are (more root blocks others) zero c f = let w = head_word root blocks c.0 (values_words blocks c.1) in absurd (omega (arith, w.filled, f 0 (omega arith)))
 trees_are (more None blocks others) (suc d) c f =
     ap₂ (λ (bs os : RootTrees). more None bs os) c.0 (trees_are others (suc d) c.2 (λ i l. f (suc i) (omega arith)))
-    ∙ ap (λ t. put t (joined (map (tree_up_to (suc d)) (values others)))) (sym (tree_one d))
+    ∙ ap (λ t. put t (as_trees (map (tree_up_to (suc d)) (values others)))) (sym (tree_one d))
 trees_are (more (Some π) blocks others) (suc d) c f =
     let words = values_words blocks c.1 in
     let two = root_two π (block (values blocks) 0) c.0.root in
@@ -103,7 +103,7 @@ trees_are (more (Some π) blocks others) (suc d) c f =
     let long : 2 ≤ length (inflate π (values blocks)) = omega (arith, shorter π blocks 0 c.0 words (omega arith), (words 0 (omega arith)).filled) in
     let p = parts_are (inflate π (values blocks)) π (values blocks) w long (node_decomposes π blocks c.0 words) in
     ap₂ (λ (bs os : RootTrees). more (Some π) bs os) (trees_are blocks d c.1 (λ i l. omega (arith, shorter π blocks i c.0 words l, f 0 (omega arith)))) (trees_are others (suc d) c.2 (λ i l. f (suc i) (omega arith)))
-    ∙ ap (λ t. put t (joined (map (tree_up_to (suc d)) (values others)))) (sym (tree_node d (inflate π (values blocks)) π (values blocks) p))
+    ∙ ap (λ t. put t (as_trees (map (tree_up_to (suc d)) (values others)))) (sym (tree_node d (inflate π (values blocks)) π (values blocks) p))
 
 -- any decomposition tree is the one computed
 pub tree_only : (d : ℕ) (σ : List ℕ) (t : RootTree) → length σ ≤ d → IsTreeOf σ t → t ≡ tree_up_to d σ
@@ -115,17 +115,17 @@ tree_only d σ t l h =
     short (suc i) k = absurd (omega arith)
 
 -- the trees computed of words
-pub count_joined : (ts : List RootTree) → count (joined ts) ≡ length ts
-count_joined [] = refl
-count_joined (t ∷ ts) = ap suc (count_joined ts)
+pub count_as_trees : (ts : List RootTree) → count (as_trees ts) ≡ length ts
+count_as_trees [] = refl
+count_as_trees (t ∷ ts) = ap suc (count_as_trees ts)
 
 -- trees computed of words stand for the words
-values_back : (d : ℕ) (αs : List (List ℕ)) → ((i : ℕ) → i < length αs → IsTreeOf (block αs i) (tree_up_to d (block αs i))) → values (joined (map (tree_up_to d) αs)) ≡ αs
+values_back : (d : ℕ) (αs : List (List ℕ)) → ((i : ℕ) → i < length αs → IsTreeOf (block αs i) (tree_up_to d (block αs i))) → values (as_trees (map (tree_up_to d) αs)) ≡ αs
 values_back d [] f = refl
 values_back d (α ∷ αs) f = ap₂ (λ (v : List ℕ) (vs : List (List ℕ)). v ∷ vs) (f 0 (omega arith)).word (values_back d αs (λ i l. f (suc i) (omega arith)))
 
 -- and have canonical roots
-canonical_all : (d : ℕ) (αs : List (List ℕ)) → ((i : ℕ) → i < length αs → IsTreeOf (block αs i) (tree_up_to d (block αs i))) → AreCanonicalNodes (joined (map (tree_up_to d) αs))
+canonical_all : (d : ℕ) (αs : List (List ℕ)) → ((i : ℕ) → i < length αs → IsTreeOf (block αs i) (tree_up_to d (block αs i))) → AreCanonicalNodes (as_trees (map (tree_up_to d) αs))
 canonical_all d [] f = tt
 canonical_all d (α ∷ αs) f = ((f 0 (omega arith)).top, (f 0 (omega arith)).below, canonical_all d αs (λ i l. f (suc i) (omega arith)))
 
@@ -140,7 +140,7 @@ tree_is (suc d) w g l = elim (cases_eq (length w) 1) [
       subst (IsTreeOf w) (sym (tree_node d w p.0.root p.0.blocks p.1)) (node p.0.root p.0.blocks p.2 (λ α a k. tree_is d α a k))
 ]
   where
-    node : (π : List ℕ) (αs : List (List ℕ)) → Decomposes w π αs → ((α : List ℕ) → IsWord α → length α ≤ d → IsTreeOf α (tree_up_to d α)) → IsTreeOf w (record { root = Some π; blocks = joined (map (tree_up_to d) αs) })
+    node : (π : List ℕ) (αs : List (List ℕ)) → Decomposes w π αs → ((α : List ℕ) → IsWord α → length α ≤ d → IsTreeOf α (tree_up_to d α)) → IsTreeOf w (record { root = Some π; blocks = as_trees (map (tree_up_to d) αs) })
     node π αs h each =
         let b = h.blocks in
         let n = b.count in
@@ -154,7 +154,7 @@ tree_is (suc d) w g l = elim (cases_eq (length w) 1) [
         record {
           word = ap (inflate π) back ∙ h.value;
           top = record {
-            blocks = count_joined (map (tree_up_to d) αs) ∙ length-map αs (tree_up_to d) ∙ n;
+            blocks = count_as_trees (map (tree_up_to d) αs) ∙ length-map αs (tree_up_to d) ∙ n;
             root = subst (λ βs. IsRoot π (block βs 0)) (sym back) h.root;
           };
           below = canonical_all d αs deeper;
@@ -173,13 +173,13 @@ tree_enough : (d : ℕ) (w : List ℕ) → IsWord w → length w ≤ d → tree_
 tree_enough d w g l = (tree_law w g).only (tree_up_to d w) (tree_is d w g l)
 
 -- the tree of a word of two or more entries, from those of its blocks
-pub dec_node : (w π : List ℕ) (αs : List (List ℕ)) → IsWord w → Decomposes w π αs → parts w ≡ Some (record { root = π; blocks = αs }) → dec w ≡ record { root = Some π; blocks = joined (map dec αs) }
+pub dec_node : (w π : List ℕ) (αs : List (List ℕ)) → IsWord w → Decomposes w π αs → parts w ≡ Some (record { root = π; blocks = αs }) → dec w ≡ record { root = Some π; blocks = as_trees (map dec αs) }
 unfolding dec
 dec_node w π αs g h e =
     let some = g.filled in
     let n : length w ≡ suc (length w - 1) = omega arith in
     ap (λ d. tree_up_to d w) n ∙ tree_node (length w - 1) w π αs e
-    ∙ ap (λ ts. let t : RootTree = record { root = Some π; blocks = joined ts } in t) (same αs (λ i l. enough i l))
+    ∙ ap (λ ts. let t : RootTree = record { root = Some π; blocks = as_trees ts } in t) (same αs (λ i l. enough i l))
   where
     enough : (i : ℕ) → i < length αs → tree_up_to (length w - 1) (block αs i) ≡ dec (block αs i)
     enough i l =

@@ -2,18 +2,18 @@
 use Rattle.std.proofs.Common.{◌≡◌, ℕ, zero, suc, ◌+◌, ◌<◌, ◌≤◌, List, [], ◌∷◌, ◌++◌, map, length, take, get_or, slice_get, cond, ltb, Option, Some, None, sum_by, add-one, refl, sym, ap, ap₂, ◌∙◌, subst, arith, lt-ltb, le-ltb, length-append, append_assoc}
 use Rattle.std.proofs.lemmas.List.{get_or-map, length-map}
 use Rattle.av_perm.specs.Word.{entry}
-use Rattle.av_perm.specs.Relations.{at, IsWord, block, raised, joined as pieces_joined, below, inflate}
+use Rattle.av_perm.specs.Relations.{at, IsWord, block, raised, joined, below, inflate}
 use Rattle.av_perm.proofs.Inflations.{lengths, lengths_sum, length_inflate, inflation_word}
 use Rattle.av_perm.proofs.InflationSteps.{below_more, joined_more}
-use Rattle.av_decomp.specs.RootTrees.{RootTrees, none, more, RootTree, joined, trees_of, nodes, all_of}
+use Rattle.av_decomp.specs.RootTrees.{RootTrees, none, more, RootTree, as_trees, trees_of, nodes, all_of}
 use Rattle.av_decomp.specs.Trees.{root_length, value_by, values, value, FitsRoot, FitsNode, AreFormed, IsFormed, Keeps, IsCanonicalNode, AreCanonicalNodes, dec}
-use Rattle.av_decomp.proofs.DecompositionTrees.{AllWords, tree_law, count_joined, length_values, one_word, root_is_word}
+use Rattle.av_decomp.proofs.DecompositionTrees.{AllWords, tree_law, count_as_trees, length_values, one_word, root_is_word}
 use Rattle.av_decomp.proofs.Decompositions.{root_two}
 
 -- the words of trees one after another
-pub values_joined : (ts : List RootTree) → values (joined ts) ≡ map value ts
-values_joined [] = refl
-values_joined (t ∷ ts) = ap (λ (vs : List (List ℕ)). value t ∷ vs) (values_joined ts)
+pub values_as_trees : (ts : List RootTree) → values (as_trees ts) ≡ map value ts
+values_as_trees [] = refl
+values_as_trees (t ∷ ts) = ap (λ (vs : List (List ℕ)). value t ∷ vs) (values_as_trees ts)
 
 -- the word of a tree in a list
 pub value_at : (ts : List RootTree) (k : ℕ) (t : RootTree) → k < length ts → t ≡ get_or ts k t → value t ≡ block (map value ts) k
@@ -52,17 +52,17 @@ raised_append o [] b = refl
 raised_append o (x ∷ a) b = ap (λ (c : List ℕ). (x + o) ∷ c) (raised_append o a b)
 
 -- many lists raised together
-raised_pieces : (o n : ℕ) (F : ℕ → List ℕ) → raised o (pieces_joined F n) ≡ pieces_joined (λ i. raised o (F i)) n
+raised_pieces : (o n : ℕ) (F : ℕ → List ℕ) → raised o (joined F n) ≡ joined (λ i. raised o (F i)) n
 raised_pieces o zero F = refl
-raised_pieces o (suc n) F = raised_append o (F 0) (pieces_joined (λ i. F (suc i)) n) ∙ ap (λ (c : List ℕ). raised o (F 0) ++ c) (raised_pieces o n (λ i. F (suc i)))
+raised_pieces o (suc n) F = raised_append o (F 0) (joined (λ i. F (suc i)) n) ∙ ap (λ (c : List ℕ). raised o (F 0) ++ c) (raised_pieces o n (λ i. F (suc i)))
 
 -- lists that are equal one by one are equal joined
-pieces_same : (n : ℕ) (F G : ℕ → List ℕ) → ((i : ℕ) → F i ≡ G i) → pieces_joined F n ≡ pieces_joined G n
+pieces_same : (n : ℕ) (F G : ℕ → List ℕ) → ((i : ℕ) → F i ≡ G i) → joined F n ≡ joined G n
 pieces_same zero F G h = refl
 pieces_same (suc n) F G h = ap₂ (λ (a b : List ℕ). a ++ b) (h 0) (pieces_same n (λ i. F (suc i)) (λ i. G (suc i)) (λ i. h (suc i)))
 
 -- together they are the inflation, raised
-pub lifted_all : (o : ℕ) (π : List ℕ) (αs : List (List ℕ)) → pieces_joined (lifted o π αs) (length π) ≡ raised o (inflate π αs)
+pub lifted_all : (o : ℕ) (π : List ℕ) (αs : List (List ℕ)) → joined (lifted o π αs) (length π) ≡ raised o (inflate π αs)
 lifted_all o π αs =
     sym (raised_pieces o (length π) (λ i. raised (below (at π i) π αs) (block αs i))
     ∙ pieces_same (length π) (λ i. raised o (raised (below (at π i) π αs) (block αs i))) (lifted o π αs) (λ i. raised_twice o (below (at π i) π αs) (block αs i)))
@@ -72,20 +72,20 @@ lifted_length : (o : ℕ) (π : List ℕ) (αs : List (List ℕ)) (i : ℕ) → 
 lifted_length o π αs i = length-map (block αs i) (λ (v : ℕ). v + (o + below (at π i) π αs))
 
 -- the first lists and the next are no longer than all
-pieces_few : (F : ℕ → List ℕ) (αs : List (List ℕ)) (i : ℕ) → i < length αs → ((k : ℕ) → length (F k) ≡ length (block αs k)) → length (pieces_joined F i) + length (block αs i) ≤ lengths αs
+pieces_few : (F : ℕ → List ℕ) (αs : List (List ℕ)) (i : ℕ) → i < length αs → ((k : ℕ) → length (F k) ≡ length (block αs k)) → length (joined F i) + length (block αs i) ≤ lengths αs
 pieces_few F [] i h e = absurd (omega arith)
 pieces_few F (a ∷ αs) zero h e = omega arith
-pieces_few F (a ∷ αs) (suc i) h e = omega (arith, length-append (F 0) (pieces_joined (λ k. F (suc k)) i), e 0, pieces_few (λ k. F (suc k)) αs i (omega arith) (λ k. e (suc k)))
+pieces_few F (a ∷ αs) (suc i) h e = omega (arith, length-append (F 0) (joined (λ k. F (suc k)) i), e 0, pieces_few (λ k. F (suc k)) αs i (omega arith) (λ k. e (suc k)))
 
 -- so the next block finds room
-pub lifted_room : (o : ℕ) (π : List ℕ) (αs : List (List ℕ)) (i : ℕ) → i < length αs → length (pieces_joined (lifted o π αs) i) + length (block αs i) ≤ sum_by length αs
+pub lifted_room : (o : ℕ) (π : List ℕ) (αs : List (List ℕ)) (i : ℕ) → i < length αs → length (joined (lifted o π αs) i) + length (block αs i) ≤ sum_by length αs
 lifted_room o π αs i h = omega (arith, lengths_sum αs, pieces_few (lifted o π αs) αs i h (λ k. lifted_length o π αs k))
 
 -- one more block at the end
-pub lifted_more : (o r : ℕ) (π : List ℕ) (αs : List (List ℕ)) (i : ℕ) (start old new a : List ℕ) → old ≡ start ++ pieces_joined (lifted o π αs) i → new ≡ old ++ raised (o + r) a
-    → r ≡ below (at π i) π αs → a ≡ block αs i → new ≡ start ++ pieces_joined (lifted o π αs) (i + 1)
+pub lifted_more : (o r : ℕ) (π : List ℕ) (αs : List (List ℕ)) (i : ℕ) (start old new a : List ℕ) → old ≡ start ++ joined (lifted o π αs) i → new ≡ old ++ raised (o + r) a
+    → r ≡ below (at π i) π αs → a ≡ block αs i → new ≡ start ++ joined (lifted o π αs) (i + 1)
 lifted_more o r π αs i start old new a eo en er ea =
-    en ∙ rw (eo, er, ea, add-one i) (append_assoc start (pieces_joined (lifted o π αs) i) (lifted o π αs i) ∙ ap (λ (l : List ℕ). start ++ l) (joined_more i (lifted o π αs)))
+    en ∙ rw (eo, er, ea, add-one i) (append_assoc start (joined (lifted o π αs) i) (lifted o π αs i) ∙ ap (λ (l : List ℕ). start ++ l) (joined_more i (lifted o π αs)))
 
 -- what a tree with a root keeps
 pub record IsNode (π : List ℕ) (ts : List RootTree) (t : RootTree) : Type 0 where
@@ -95,35 +95,35 @@ pub record IsNode (π : List ℕ) (ts : List RootTree) (t : RootTree) : Type 0 w
   pub few : sum_by length (map value ts) ≤ 160
 
 -- a tree with a root keeps it
-pub node_of : (root : Option (List ℕ)) (π : List ℕ) (ts : List RootTree) (t : RootTree) → IsFormed (record { root = root; blocks = joined ts }) → root ≡ Some π → record { root = root; blocks = joined ts } ≡ t → IsNode π ts t
+pub node_of : (root : Option (List ℕ)) (π : List ℕ) (ts : List RootTree) (t : RootTree) → IsFormed (record { root = root; blocks = as_trees ts }) → root ≡ Some π → record { root = root; blocks = as_trees ts } ≡ t → IsNode π ts t
 node_of root π ts t h e q =
-    let f : FitsRoot π (joined ts) = subst (λ r. FitsNode r (joined ts)) e h.top in
-    let n : length ts ≡ length π = sym (count_joined ts) ∙ f.blocks in
-    let w : value t ≡ inflate π (map value ts) = ap value (sym q) ∙ ap (λ r. value_by r (values (joined ts))) e ∙ ap (inflate π) (values_joined ts) in
+    let f : FitsRoot π (as_trees ts) = subst (λ r. FitsNode r (as_trees ts)) e h.top in
+    let n : length ts ≡ length π = sym (count_as_trees ts) ∙ f.blocks in
+    let w : value t ≡ inflate π (map value ts) = ap value (sym q) ∙ ap (λ r. value_by r (values (as_trees ts))) e ∙ ap (inflate π) (values_as_trees ts) in
     let l : length (value t) ≡ sum_by length (map value ts) = ap (λ (v : List ℕ). length v) w ∙ length_inflate π (map value ts) (length-map ts value ∙ n) ∙ lengths_sum (map value ts) in
     let few = h.few in
-    let g : length (value t) ≡ length (value (record { root = root; blocks = joined ts })) = ap (λ (u : RootTree). length (value u)) (sym q) in
+    let g : length (value t) ≡ length (value (record { root = root; blocks = as_trees ts })) = ap (λ (u : RootTree). length (value u)) (sym q) in
     record { count = n; word = w; long = l; few = omega arith }
 
 -- a tree of a block has fewer nodes
-all_less : (ts : List RootTree) (k : ℕ) (d : RootTree) → k < length ts → nodes (get_or ts k d) ≤ all_of (joined ts)
+all_less : (ts : List RootTree) (k : ℕ) (d : RootTree) → k < length ts → nodes (get_or ts k d) ≤ all_of (as_trees ts)
 all_less [] k d h = absurd (omega arith)
 all_less (t ∷ ts) zero d h = omega arith
 all_less (t ∷ ts) (suc k) d h = omega (arith, all_less ts k d (omega arith))
 
 -- so the tree of a block has fewer than the tree
-pub nodes_less : (root : Option (List ℕ)) (ts : List RootTree) (k : ℕ) (t s : RootTree) → k < length ts → s ≡ get_or ts k s → record { root = root; blocks = joined ts } ≡ t → nodes s < nodes t
+pub nodes_less : (root : Option (List ℕ)) (ts : List RootTree) (k : ℕ) (t s : RootTree) → k < length ts → s ≡ get_or ts k s → record { root = root; blocks = as_trees ts } ≡ t → nodes s < nodes t
 nodes_less root ts k t s h e q =
     let a = all_less ts k s h in
     let b = ap (λ (u : RootTree). nodes u) e in
-    let c : nodes (record { root = root; blocks = joined ts }) ≡ nodes t = ap (λ (u : RootTree). nodes u) q in
+    let c : nodes (record { root = root; blocks = as_trees ts }) ≡ nodes t = ap (λ (u : RootTree). nodes u) q in
     omega arith
 
 -- a tree has as many blocks as its root is long
-pub formed_length : (root : Option (List ℕ)) (ts : List RootTree) → FitsNode root (joined ts) → length ts ≡ root_length root
+pub formed_length : (root : Option (List ℕ)) (ts : List RootTree) → FitsNode root (as_trees ts) → length ts ≡ root_length root
 formed_length None [] h = refl
 formed_length None (t ∷ ts) h = absurd (cc)
-formed_length (Some π) ts h = sym (count_joined ts) ∙ h.blocks
+formed_length (Some π) ts h = sym (count_as_trees ts) ∙ h.blocks
 
 -- a formed tree stands for a word
 formed_head : (root : Option (List ℕ)) (ts : RootTrees) → FitsNode root ts → AllWords (values ts) → IsWord (value_by root (values ts))
@@ -170,25 +170,25 @@ raised_none [] = refl
 raised_none (x ∷ a) = let e : x + 0 ≡ x = omega arith in ap₂ (λ (y : ℕ) (b : List ℕ). y ∷ b) e (raised_none a)
 
 -- all blocks, raised, are the word of the tree, raised
-pub lifted_end : (o i : ℕ) (π : List ℕ) (ts : List RootTree) (now : RootTree) (start new : List ℕ) → IsNode π ts now → new ≡ start ++ pieces_joined (lifted o π (map value ts)) i → i ≡ length π
+pub lifted_end : (o i : ℕ) (π : List ℕ) (ts : List RootTree) (now : RootTree) (start new : List ℕ) → IsNode π ts now → new ≡ start ++ joined (lifted o π (map value ts)) i → i ≡ length π
     → new ≡ start ++ raised o (value now)
 lifted_end o i π ts now start new n e q =
-    let all : pieces_joined (lifted o π (map value ts)) i ≡ raised o (value now) = ap (pieces_joined (lifted o π (map value ts))) q ∙ lifted_all o π (map value ts) ∙ ap (raised o) (sym n.word) in
+    let all : joined (lifted o π (map value ts)) i ≡ raised o (value now) = ap (joined (lifted o π (map value ts))) q ∙ lifted_all o π (map value ts) ∙ ap (raised o) (sym n.word) in
     e ∙ ap (λ (l : List ℕ). start ++ l) all
 
 -- what a caller knows of the trees of blocks: they are as many as the root is long, and each has fewer nodes
-joined_trees : (ts : RootTrees) → joined (trees_of ts) ≡ ts
-joined_trees none = refl
-joined_trees (more root blocks others) = ap (λ (os : RootTrees). more root blocks os) (joined_trees others)
+as_trees_of : (ts : RootTrees) → as_trees (trees_of ts) ≡ ts
+as_trees_of none = refl
+as_trees_of (more root blocks others) = ap (λ (os : RootTrees). more root blocks os) (as_trees_of others)
 
 -- a tree has as many blocks as its root is long
 pub children_count : (t : RootTree) → IsFormed t → length (trees_of t.blocks) ≡ root_length t.root
-children_count t h = formed_length t.root (trees_of t.blocks) (subst (FitsNode t.root) (sym (joined_trees t.blocks)) h.top)
+children_count t h = formed_length t.root (trees_of t.blocks) (subst (FitsNode t.root) (sym (as_trees_of t.blocks)) h.top)
 
 -- the tree of a block has fewer nodes
 pub child_less : (t s : RootTree) (i : ℕ) → i < length (trees_of t.blocks) → slice_get (trees_of t.blocks) i ≡ Some s → nodes s < nodes t
 child_less t s i h e =
-    let q : record { root = t.root; blocks = joined (trees_of t.blocks) } ≡ t = ap (λ (bs : RootTrees). let r : RootTree = record { root = t.root; blocks = bs } in r) (joined_trees t.blocks) in
+    let q : record { root = t.root; blocks = as_trees (trees_of t.blocks) } ≡ t = ap (λ (bs : RootTrees). let r : RootTree = record { root = t.root; blocks = bs } in r) (as_trees_of t.blocks) in
     nodes_less t.root (trees_of t.blocks) i t s h (sym (slice_get_is (trees_of t.blocks) i s s e)) q
   where
     slice_get_is : (ts : List RootTree) (i : ℕ) (s d : RootTree) → slice_get ts i ≡ Some s → get_or ts i d ≡ s

@@ -3,12 +3,12 @@ use Rattle.std.proofs.Common.{◌≡◌, ℕ, List, [], ◌∷◌, refl, Some}
 use Rattle.av_perm.specs.Lists.{size_lists}
 use Rattle.av_perm.specs.Parts.{parts}
 use Rattle.av_perm.specs.Simple.{is_simple, is_sum_indecomposable, is_skew_indecomposable}
-use Rattle.av_decomp.specs.RootTrees.{RootTree, point, joined}
+use Rattle.av_decomp.specs.RootTrees.{RootTree, point, as_trees}
 use Rattle.av_decomp.specs.Trees.{value, dec, tree_up_to}
 
 -- a root with the trees of its blocks
 abbrev node : List ℕ → List RootTree → RootTree
-node π ts = record { root = Some π; blocks = joined ts }
+node π ts = record { root = Some π; blocks = as_trees ts }
 
 -- the decomposition tree of 213 is 12[21[1, 1], 1]
 dec_213 : dec (2 ∷ 1 ∷ 3 ∷ []) ≡ node (1 ∷ 2 ∷ []) (node (2 ∷ 1 ∷ []) (point ∷ point ∷ []) ∷ point ∷ [])

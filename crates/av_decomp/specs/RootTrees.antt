@@ -20,9 +20,9 @@ abbrev pub point : RootTree
 point = record { root = None; blocks = none }
 
 -- trees one after another, and back
-abbrev pub joined : List RootTree → RootTrees
-joined [] = none
-joined (t ∷ ts) = more t.root t.blocks (joined ts)
+abbrev pub as_trees : List RootTree → RootTrees
+as_trees [] = none
+as_trees (t ∷ ts) = more t.root t.blocks (as_trees ts)
 
 -- the trees of a list one by one
 abbrev pub trees_of : RootTrees → List RootTree
@@ -30,9 +30,9 @@ trees_of none = []
 trees_of (more root blocks others) = record { root = root; blocks = blocks } ∷ trees_of others
 
 -- joined and taken apart they are as before
-pub trees_of_joined : (ts : List RootTree) → trees_of (joined ts) ≡ ts
-trees_of_joined [] = refl
-trees_of_joined (t ∷ ts) = ap (λ (us : List RootTree). t ∷ us) (trees_of_joined ts)
+pub trees_of_as_trees : (ts : List RootTree) → trees_of (as_trees ts) ≡ ts
+trees_of_as_trees [] = refl
+trees_of_as_trees (t ∷ ts) = ap (λ (us : List RootTree). t ∷ us) (trees_of_as_trees ts)
 
 -- how many trees there are, at all levels
 abbrev pub all_of : RootTrees → ℕ
@@ -44,7 +44,7 @@ abbrev pub nodes : RootTree → ℕ
 nodes t = suc (all_of t.blocks)
 
 -- no tree has more nodes than all together
-pub nodes_most : (kids : List RootTree) → most (λ k. nodes k + 1) kids ≤ all_of (joined kids) + 1
+pub nodes_most : (kids : List RootTree) → most (λ k. nodes k + 1) kids ≤ all_of (as_trees kids) + 1
 nodes_most [] = omega arith
 nodes_most (k ∷ ks) = omega (arith, nodes_most ks)
 

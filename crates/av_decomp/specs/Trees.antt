@@ -4,7 +4,7 @@ use Rattle.av_perm.specs.declared.limits.TheConstants.{MAX_LENGTH}
 use Rattle.av_perm.specs.Relations.{IsWord, block, inflate}
 use Rattle.av_perm.specs.Decompose.{IsRoot}
 use Rattle.av_perm.specs.Parts.{Parts, parts}
-use Rattle.av_decomp.specs.RootTrees.{RootTrees, none, more, RootTree, point, joined}
+use Rattle.av_decomp.specs.RootTrees.{RootTrees, none, more, RootTree, point, as_trees}
 
 -- how many trees a list has
 abbrev pub count : RootTrees → ℕ
@@ -82,7 +82,7 @@ pub record IsTreeOf (σ : List ℕ) (t : RootTree) : Type 0 where
 -- computed: the root and the blocks of the word, and the trees of the blocks
 abbrev pub tree_by : Option Parts → (List ℕ → RootTree) → RootTree
 tree_by None deeper = point
-tree_by (Some p) deeper = record { root = Some p.root; blocks = joined (map deeper p.blocks) }
+tree_by (Some p) deeper = record { root = Some p.root; blocks = as_trees (map deeper p.blocks) }
 
 -- of words of length at most d
 unfoldable pub tree_up_to : ℕ → List ℕ → RootTree

@@ -24,7 +24,7 @@ pub struct DecTree {
 // A root has at least two blocks, so a tree is at most 159 deep, which bounds every recursion on one.
 impl Model for DecTree {
     ghost use Rattle.std.specs.Prelude.{◌≡◌, length};
-    ghost use Rattle.av_decomp.specs.RootTrees.{RootTree, tree_code, joined, nodes, nodes_most};
+    ghost use Rattle.av_decomp.specs.RootTrees.{RootTree, tree_code, as_trees, nodes, nodes_most};
     ghost use Rattle.std.proofs.Common.{arith};
 
     ghost Value = { RootTree };
@@ -33,9 +33,9 @@ impl Model for DecTree {
 
     ghost use Rattle.av_decomp.specs.Trees.{Keeps};
 
-    ghost view = { λ t. record { root = t.root; blocks = joined t.blocks.items } };
+    ghost view = { λ t. record { root = t.root; blocks = as_trees t.blocks.items } };
 
-    ghost invariant = { λ t. Keeps (record { root = t.root; blocks = joined t.blocks.items }) t.points };
+    ghost invariant = { λ t. Keeps (record { root = t.root; blocks = as_trees t.blocks.items }) t.points };
 
     ghost size = { nodes };
 

@@ -17,7 +17,7 @@ fn key_of_seed(seed: u64) -> [u8; 32]
 }
 
 /// Four words as one number, the least first.
-fn joined(first: u32, second: u32, third: u32, fourth: u32) -> u128
+fn joined_words(first: u32, second: u32, third: u32, fourth: u32) -> u128
     ensures { result ≡ joined_words first second third fourth }
 {
     u128::from(first)
@@ -38,7 +38,7 @@ fn next_four(stream: &mut ChaCha20Rng, seed: u64, place: u64) -> u128
     let second = stream.next_word();
     let third = stream.next_word();
     let fourth = stream.next_word();
-    joined(first, second, third, fourth)
+    joined_words(first, second, third, fourth)
 }
 
 /// A source of drawn numbers, seen as its seed and the number of draws made.

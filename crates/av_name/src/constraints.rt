@@ -74,7 +74,7 @@ pub fn add_avoid(alloc: Global, c: &Constraint, p: &Perm) -> Result<Constraint, 
     ensures { IfOk result (λ d. d ≡ add_avoid c.now p.now) }
 {
     Ok(Constraint {
-        avoid: minimal(alloc, &joined(alloc, p, &c.avoid)?)?,
+        avoid: minimal(alloc, &with_word_first(alloc, p, &c.avoid)?)?,
         require: c.require.copy(alloc)?,
     })
 }
@@ -89,12 +89,12 @@ pub fn add_require(alloc: Global, c: &Constraint, p: &Perm) -> Result<Constraint
     let _length = p.len();
     Ok(Constraint {
         avoid: c.avoid.copy(alloc)?,
-        require: maximal(alloc, &joined(alloc, p, &c.require)?)?,
+        require: maximal(alloc, &with_word_first(alloc, p, &c.require)?)?,
     })
 }
 
 // The list with the word in front.
-fn joined(alloc: Global, word: &Perm, words: &Words) -> Result<Words, Memory>
+fn with_word_first(alloc: Global, word: &Perm, words: &Words) -> Result<Words, Memory>
     ensures { IfOk result (λ all. all ≡ word.now ∷ words.now) }
 {
     let mut all = Words::empty(alloc);

@@ -1,7 +1,7 @@
 -- Worked values of the definitions, by computation.
 use Rattle.std.proofs.Common.{◌≡◌, ℕ, List, [], ◌∷◌, ◌++◌, Some, codes, refl}
 use Rattle.std.specs.Fmt.{digits}
-use Rattle.av_decomp.specs.RootTrees.{RootTree, point, joined}
+use Rattle.av_decomp.specs.RootTrees.{RootTree, point, as_trees}
 use Rattle.av_sys.specs.declared.names.Sign.{Sign}
 use Rattle.av_sys.specs.declared.names.Sign.TheVariants.{C, P, M}
 use Rattle.av_sys.specs.declared.terms.Term.{Term}
@@ -13,7 +13,7 @@ use Rattle.av_print.specs.Systems.{number_text, children_text, term_text, terms_
 
 -- a root with the trees of its blocks
 abbrev node : List ℕ → List RootTree → RootTree
-node π ts = record { root = Some π; blocks = joined ts }
+node π ts = record { root = Some π; blocks = as_trees ts }
 
 -- a single point
 point_text : tree_text point ≡ codes "1"

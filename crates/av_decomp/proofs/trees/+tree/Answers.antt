@@ -5,7 +5,7 @@ use Rattle.av_interval.specs.declared.spans.Span.{Span}
 use Rattle.av_interval.specs.Intervals.{Tiles}
 use Rattle.av_decomp.specs.Blocks.{blocks_at}
 use Rattle.av_decomp.specs.Shapes.{HasBlocks}
-use Rattle.av_decomp.specs.RootTrees.{RootTree, joined}
+use Rattle.av_decomp.specs.RootTrees.{RootTree, as_trees}
 use Rattle.av_decomp.specs.Trees.{dec, Keeps, IsTreeOf}
 use Rattle.av_decomp.proofs.SpanNumbers.{span_within}
 use Rattle.av_decomp.proofs.Decompositions.{span_shorter}
@@ -36,11 +36,11 @@ tree-requires t c =
     (omega (arith, l, e), tt)
 
 -- the trees of all blocks
-all_blocks : (t : ℕ) (c : goal.After-loop-span t) → record { root = Some c.in-Inflated.root; blocks = joined c.loop-span.blocks.items } ≡ dec c.args.word.now
+all_blocks : (t : ℕ) (c : goal.After-loop-span t) → record { root = Some c.in-Inflated.root; blocks = as_trees c.loop-span.blocks.items } ≡ dec c.args.word.now
 all_blocks t c =
     let h = c.in-Inflated.ensures in
     let g = perm_word c.args.word.now c.len-points.ensures.word in
-    ap (λ (ts : List RootTree). let r : RootTree = record { root = Some c.in-Inflated.root; blocks = joined ts } in r)
+    ap (λ (ts : List RootTree). let r : RootTree = record { root = Some c.in-Inflated.root; blocks = as_trees ts } in r)
     (c.loop-span.invariant ∙ ap (λ (s : List Span). map dec (blocks_at c.args.word.now s)) (take_all c.loop-span.span-index c.as_slice-span-items.result.now c.loop-span-test.false ∙ c.as_slice-span-items.ensures))
     ∙ sym (dec_node c.args.word.now c.in-Inflated.root (blocks_at c.args.word.now c.in-Inflated.spans) g h.blocks h.computed)
 
@@ -57,7 +57,7 @@ returns-after-loop-span t c = record {
 
 pub returns-in-One : goal.returns-in-One
 returns-in-One t c =
-    let e = ap (λ (ts : List RootTree). let r : RootTree = record { root = None; blocks = joined ts } in r) c.new.ensures.items ∙ sym (ap dec c.in-One.ensures ∙ dec_one) in
+    let e = ap (λ (ts : List RootTree). let r : RootTree = record { root = None; blocks = as_trees ts } in r) c.new.ensures.items ∙ sym (ap dec c.in-One.ensures ∙ dec_one) in
     record {
       value = e;
       decomposition = subst (IsTreeOf c.args.word.now) (sym e) (tree_law c.args.word.now (perm_word c.args.word.now c.len-points.ensures.word)).tree;
