@@ -2,7 +2,7 @@
 use Rattle.std.proofs.Common.{◌≡◌, ℕ, zero, suc, ◌+◌, ◌<◌, ◌≤◌, List, [], ◌∷◌, ◌++◌, map, length, take, get_or, slice_get, cond, ltb, Option, Some, None, sum_by, add-one, refl, sym, ap, ap₂, ◌∙◌, subst, arith, lt-ltb, le-ltb, length-append, append_assoc}
 use Rattle.std.proofs.lemmas.List.{get_or-map, length-map}
 use Rattle.av_perm.specs.Word.{entry}
-use Rattle.av_perm.specs.Relations.{at, IsWord, block, raised, joined, below, inflate}
+use Rattle.av_perm.specs.Relations.{at, IsWord, block, raised, joined, points_below, inflate}
 use Rattle.av_perm.proofs.Inflations.{lengths, lengths_sum, length_inflate, inflation_word}
 use Rattle.av_perm.proofs.InflationSteps.{below_more, joined_more}
 use Rattle.av_decomp.specs.RootTrees.{RootTrees, none, more, RootTree, as_trees, trees_of, nodes, all_of}
@@ -20,8 +20,8 @@ pub value_at : (ts : List RootTree) (k : ℕ) (t : RootTree) → k < length ts �
 value_at ts k t h e = ap value e ∙ sym (get_or-map value ts k t [] h)
 
 -- one more block whose root entry is below a number, or isn't
-pub lower_more : (v x r n k : ℕ) (π : List ℕ) (αs : List (List ℕ)) → k < length π → k < length αs → r ≡ below v (take k π) (take k αs) → x ≡ entry π (k + 1) → x < v → n ≡ length (block αs k)
-    → r + n ≡ below v (take (k + 1) π) (take (k + 1) αs)
+pub lower_more : (v x r n k : ℕ) (π : List ℕ) (αs : List (List ℕ)) → k < length π → k < length αs → r ≡ points_below v (take k π) (take k αs) → x ≡ entry π (k + 1) → x < v → n ≡ length (block αs k)
+    → r + n ≡ points_below v (take (k + 1) π) (take (k + 1) αs)
 lower_more v x r n k π αs hx ha so_far ex less en =
     let here : x ≡ at π k = ex ∙ ap (entry π) (add-one k) in
     let more = below_more v π αs k hx ha in
@@ -29,8 +29,8 @@ lower_more v x r n k π αs hx ha so_far ex less en =
     rw (add-one k) (omega (arith, more, c, so_far, en))
 
 -- the next block is not below
-pub lower_still : (v x r k : ℕ) (π : List ℕ) (αs : List (List ℕ)) → k < length π → k < length αs → r ≡ below v (take k π) (take k αs) → x ≡ entry π (k + 1) → v ≤ x
-    → r ≡ below v (take (k + 1) π) (take (k + 1) αs)
+pub lower_still : (v x r k : ℕ) (π : List ℕ) (αs : List (List ℕ)) → k < length π → k < length αs → r ≡ points_below v (take k π) (take k αs) → x ≡ entry π (k + 1) → v ≤ x
+    → r ≡ points_below v (take (k + 1) π) (take (k + 1) αs)
 lower_still v x r k π αs hx ha so_far ex least =
     let here : x ≡ at π k = ex ∙ ap (entry π) (add-one k) in
     let more = below_more v π αs k hx ha in
@@ -39,7 +39,7 @@ lower_still v x r k π αs hx ha so_far ex least =
 
 -- the blocks of a raised inflation
 abbrev pub lifted : ℕ → List ℕ → List (List ℕ) → ℕ → List ℕ
-lifted o π αs i = raised (o + below (at π i) π αs) (block αs i)
+lifted o π αs i = raised (o + points_below (at π i) π αs) (block αs i)
 
 -- raised twice
 raised_twice : (o r : ℕ) (a : List ℕ) → raised o (raised r a) ≡ raised (o + r) a
@@ -64,12 +64,12 @@ pieces_same (suc n) F G h = ap₂ (λ (a b : List ℕ). a ++ b) (h 0) (pieces_sa
 -- together they are the inflation, raised
 pub lifted_all : (o : ℕ) (π : List ℕ) (αs : List (List ℕ)) → joined (lifted o π αs) (length π) ≡ raised o (inflate π αs)
 lifted_all o π αs =
-    sym (raised_pieces o (length π) (λ i. raised (below (at π i) π αs) (block αs i))
-    ∙ pieces_same (length π) (λ i. raised o (raised (below (at π i) π αs) (block αs i))) (lifted o π αs) (λ i. raised_twice o (below (at π i) π αs) (block αs i)))
+    sym (raised_pieces o (length π) (λ i. raised (points_below (at π i) π αs) (block αs i))
+    ∙ pieces_same (length π) (λ i. raised o (raised (points_below (at π i) π αs) (block αs i))) (lifted o π αs) (λ i. raised_twice o (points_below (at π i) π αs) (block αs i)))
 
 -- the blocks that stand already leave room for the next
 lifted_length : (o : ℕ) (π : List ℕ) (αs : List (List ℕ)) (i : ℕ) → length (lifted o π αs i) ≡ length (block αs i)
-lifted_length o π αs i = length-map (block αs i) (λ (v : ℕ). v + (o + below (at π i) π αs))
+lifted_length o π αs i = length-map (block αs i) (λ (v : ℕ). v + (o + points_below (at π i) π αs))
 
 -- the first lists and the next are no longer than all
 pieces_few : (F : ℕ → List ℕ) (αs : List (List ℕ)) (i : ℕ) → i < length αs → ((k : ℕ) → length (F k) ≡ length (block αs k)) → length (joined F i) + length (block αs i) ≤ lengths αs
@@ -83,7 +83,7 @@ lifted_room o π αs i h = omega (arith, lengths_sum αs, pieces_few (lifted o �
 
 -- one more block at the end
 pub lifted_more : (o r : ℕ) (π : List ℕ) (αs : List (List ℕ)) (i : ℕ) (start old new a : List ℕ) → old ≡ start ++ joined (lifted o π αs) i → new ≡ old ++ raised (o + r) a
-    → r ≡ below (at π i) π αs → a ≡ block αs i → new ≡ start ++ joined (lifted o π αs) (i + 1)
+    → r ≡ points_below (at π i) π αs → a ≡ block αs i → new ≡ start ++ joined (lifted o π αs) (i + 1)
 lifted_more o r π αs i start old new a eo en er ea =
     en ∙ rw (eo, er, ea, add-one i) (append_assoc start (joined (lifted o π αs) i) (lifted o π αs i) ∙ ap (λ (l : List ℕ). start ++ l) (joined_more i (lifted o π αs)))
 

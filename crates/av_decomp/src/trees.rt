@@ -1,7 +1,7 @@
 // Decomposition trees.
 ghost use Rattle.std.specs.Prelude.{◌≡◌, ℕ, ◌+◌, ◌-◌, ◌<◌, ◌≤◌, ◌++◌, map, length, sum_by, slice_index, slice_get, Some, IfOk};
 ghost use Rattle.std.specs.Option.{option_copied};
-ghost use Rattle.av_perm.specs.Inflate.{below, raised};
+ghost use Rattle.av_perm.specs.Inflate.{points_below, raised};
 ghost use Rattle.av_decomp.specs.RootTrees.{trees_of};
 ghost use Rattle.av_decomp.specs.Trees.{IsFormed, IsTreeOf, value, dec, root_length};
 
@@ -120,18 +120,18 @@ impl DecTree {
             return;
         };
         for i in 0..root.len() {
-            let lower = lower_points(root, &self.blocks, i);
+            let lower = raise_of(root, &self.blocks, i);
             self.blocks[i].push_value(entries, raise + lower);
         }
     }
 }
 
 // How many points the blocks have whose root entry is below that of block i.
-fn lower_points(root: &Perm, blocks: &[DecTree], i: usize) -> u8
+fn raise_of(root: &Perm, blocks: &[DecTree], i: usize) -> u8
     requires count { length blocks.now ≡ length root.now }
     requires few { sum_by length (map value blocks.now) ≤ MAX_LENGTH }
     requires within { i < length root.now }
-    ensures { result ≡ below (slice_index root.now i) root.now (map value blocks.now) }
+    ensures { result ≡ points_below (slice_index root.now i) root.now (map value blocks.now) }
 {
     let entry = root.entry(i + 1);
     let mut lower = 0;

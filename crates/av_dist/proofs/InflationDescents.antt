@@ -4,7 +4,7 @@ use Rattle.std.proofs.lemmas.List.{length-map}
 use Rattle.av_perm.specs.Members.{In}
 use Rattle.av_perm.specs.Stat.{descents}
 use Rattle.av_perm.specs.Relations.{IsWord, AreBlocks, at, inflate, joined, raised, block}
-use Rattle.av_perm.proofs.Inflations.{lifted, shift}
+use Rattle.av_perm.proofs.Inflations.{lifted, raise_of}
 use Rattle.av_dist.proofs.InflationPieces.{summed, summed_list, pieces_order, lt_raised}
 
 -- 1 where the first entry of a list is below the last of another, else 0
@@ -63,7 +63,7 @@ descents_are π αs w b =
     let c = b.count in
     descents_joined π (lifted π αs) filled (pieces_order π αs w b)
     ∙ ap (λ n. n + descents π) (ap (λ k. summed (λ i. descents (lifted π αs i)) k) (sym c)
-    ∙ summed_list descents [] αs (λ i. descents (lifted π αs i)) (λ i h. descents_raised (shift π αs i) (block αs i)))
+    ∙ summed_list descents [] αs (λ i. descents (lifted π αs i)) (λ i h. descents_raised (raise_of π αs i) (block αs i)))
   where
     filled : (i : ℕ) → i < length π → 1 ≤ length (lifted π αs i)
-    filled i h = let k = b.filled i h in let l = length-map (block αs i) (λ v. v + shift π αs i) in omega arith
+    filled i h = let k = b.filled i h in let l = length-map (block αs i) (λ v. v + raise_of π αs i) in omega arith

@@ -4,7 +4,7 @@ use Rattle.std.proofs.lemmas.List.{length-map, get_or-map}
 use Rattle.av_perm.specs.Members.{In}
 use Rattle.av_perm.specs.Stat.{inversions}
 use Rattle.av_perm.specs.Relations.{IsWord, AreBlocks, at, inflate, joined, raised, block}
-use Rattle.av_perm.proofs.Inflations.{lifted, shift}
+use Rattle.av_perm.proofs.Inflations.{lifted, raise_of}
 use Rattle.av_dist.specs.Crossing.{lesser, crossing}
 use Rattle.av_dist.proofs.HowOften.{count_append, count_cons}
 use Rattle.av_dist.proofs.InflationPieces.{summed, summed_list, lt_raised, pieces_order}
@@ -99,7 +99,7 @@ lifted_pairs π αs w b i j l h =
     ∙ ap₂ (λ n m. cond (nat_lt (at π j) (at π i)) (n * m) 0) (long i (omega arith)) (long j h)
   where
     long : (i : ℕ) → i < length π → length (lifted π αs i) ≡ at (map length αs) i
-    long i h = let c = b.count in length-map (block αs i) (λ v. v + shift π αs i) ∙ sym (get_or-map length αs i [] 0 (omega arith))
+    long i h = let c = b.count in length-map (block αs i) (λ v. v + raise_of π αs i) ∙ sym (get_or-map length αs i [] 0 (omega arith))
 
 pub inversions_are : (π : List ℕ) (αs : List (List ℕ)) → IsWord π → AreBlocks π αs
     → inversions (inflate π αs) ≡ sum_by inversions αs + crossing π (map length αs)
@@ -107,4 +107,4 @@ inversions_are π αs w b =
     let c = b.count in
     inversions_joined π (map length αs) (lifted π αs) (omega (arith, length-map αs (λ (a : List ℕ). length a))) (lifted_pairs π αs w b)
     ∙ ap (λ n. n + crossing π (map length αs)) (ap (λ k. summed (λ i. inversions (lifted π αs i)) k) (sym c)
-    ∙ summed_list inversions [] αs (λ i. inversions (lifted π αs i)) (λ i h. inversions_raised (shift π αs i) (block αs i)))
+    ∙ summed_list inversions [] αs (λ i. inversions (lifted π αs i)) (λ i h. inversions_raised (raise_of π αs i) (block αs i)))

@@ -2,7 +2,7 @@
 use Rattle.std.proofs.Common.{◌≡◌, ℕ, suc, ◌+◌, Bool, true, false, ◌&&◌, cond, nat_lt, List, [], ◌∷◌, ◌++◌, map, length, refl, sym, ◌∙◌, ap, ap₂, arith, append_assoc, true≢false, inl, inr, get_or, Option, Some, None, is_some}
 use Rattle.std.proofs.lemmas.Bool.{and_parts}
 use Rattle.std.proofs.lemmas.List.{map-append}
-use Rattle.av_perm.specs.Inflate.{joined, block, below, raised}
+use Rattle.av_perm.specs.Inflate.{joined, block, points_below, raised}
 use Rattle.av_perm.proofs.Membership.{Each}
 use Rattle.av_sys.specs.declared.terms.Term.{Term}
 use Rattle.av_sys.specs.declared.terms.Term.TheVariants.{Point, Node}
@@ -28,7 +28,7 @@ raise_all (p ∷ ps) [] = []
 raise_all (p ∷ ps) (b ∷ bs) = map (λ x. x + p) b ++ raise_all ps bs
 
 -- what lies below an entry, by the sizes
-below_lower : (p : ℕ) (root : List ℕ) (bs : List (List ℕ)) → below p root bs ≡ lower p root (map length bs)
+below_lower : (p : ℕ) (root : List ℕ) (bs : List (List ℕ)) → points_below p root bs ≡ lower p root (map length bs)
 below_lower p [] bs = refl
 below_lower p (q ∷ root) [] = refl
 below_lower p (q ∷ root) (b ∷ bs) = ap (λ z. cond {A = ℕ} (nat_lt q p) (length b) 0 + z) (below_lower p root bs)
@@ -40,12 +40,12 @@ raise_twice raise low up (x ∷ b) e = ap₂ (λ (p : ℕ) (q : List ℕ). p ∷
 
 -- the blocks of an inflation, each raised
 raised_blocks : (r : ℕ) (root : List ℕ) (all : List (List ℕ)) (parts : List ℕ) (bs : List (List ℕ)) → length bs ≡ length parts
-    → raise_all (raises r root (map length all) parts) bs ≡ map (λ x. x + r) (joined (λ i. raised (below (get_or parts i 0) root all) (block bs i)) (length parts))
+    → raise_all (raises r root (map length all) parts) bs ≡ map (λ x. x + r) (joined (λ i. raised (points_below (get_or parts i 0) root all) (block bs i)) (length parts))
 raised_blocks r root all [] bs e = refl
 raised_blocks r root all (p ∷ parts) [] e = absurd (omega arith)
 raised_blocks r root all (p ∷ parts) (b ∷ bs) e =
-    ap₂ (λ a c. a ++ c) (raise_twice r (below p root all) (r + lower p root (map length all)) b (ap (λ z. r + z) (sym (below_lower p root all)))) (raised_blocks r root all parts bs (omega arith))
-    ∙ sym (map-append (λ x. x + r) (raised (below p root all) b) (joined (λ i. raised (below (get_or parts i 0) root all) (block bs i)) (length parts)))
+    ap₂ (λ a c. a ++ c) (raise_twice r (points_below p root all) (r + lower p root (map length all)) b (ap (λ z. r + z) (sym (below_lower p root all)))) (raised_blocks r root all parts bs (omega arith))
+    ∙ sym (map-append (λ x. x + r) (raised (points_below p root all) b) (joined (λ i. raised (points_below (get_or parts i 0) root all) (block bs i)) (length parts)))
 
 -- a number for each child
 pub length_raises : (r : ℕ) (root ns parts : List ℕ) → length (raises r root ns parts) ≡ length parts

@@ -4,7 +4,7 @@ use Rattle.std.proofs.lemmas.Bool.{cases_lt, le-ltb}
 use Rattle.std.proofs.lemmas.List.{length-map}
 use Rattle.av_perm.specs.Lists.{counting}
 use Rattle.av_perm.specs.Members.{In}
-use Rattle.av_perm.specs.Relations.{at, IsOneToLength, AreBlocks, block, raised, inflate, joined, below, smaller, pattern_of}
+use Rattle.av_perm.specs.Relations.{at, IsOneToLength, AreBlocks, block, raised, inflate, joined, points_below, smaller, pattern_of}
 use Rattle.av_perm.specs.Fibre.{fibre}
 use Rattle.av_perm.proofs.Membership.{In_at}
 use Rattle.av_perm.proofs.NoRepeats.{once_from_apart, apart_from_once}
@@ -12,7 +12,7 @@ use Rattle.av_perm.proofs.Listings.{listed_length, listed_at}
 use Rattle.av_perm.proofs.Patterns.{word_smaller, word_pattern, pattern_word, pattern_raised}
 use Rattle.av_perm.proofs.Pairings.{Pair, tos, Placed, twins, twins_froms, twins_placed, twins_same}
 use Rattle.av_perm.proofs.Fibres.{fibre_at, at_fibre, fibre-map, fibre_once, joined_same, fibres_joined}
-use Rattle.av_perm.proofs.Inflations.{shift, lifted}
+use Rattle.av_perm.proofs.Inflations.{raise_of, lifted}
 use Rattle.av_perm.proofs.InflatedPatterns.{Sends, embedding_of}
 
 -- sums
@@ -59,7 +59,7 @@ smaller_joined (suc n) v F = smaller_append v (F 0) (joined (λ i. F (suc i)) n)
 
 -- the lengths of the lower blocks as a sum over all blocks
 below_sum : (xs : List ℕ) (αs : List (List ℕ)) (w : ℕ) → length αs ≡ length xs
-    → below w xs αs ≡ sumf (λ j. cond (ltb (at xs j) w) (length (block αs j)) 0) (length xs)
+    → points_below w xs αs ≡ sumf (λ j. cond (ltb (at xs j) w) (length (block αs j)) 0) (length xs)
 below_sum [] αs w e = refl
 below_sum (x ∷ xs) [] w e = absurd (omega arith)
 below_sum (x ∷ xs) (a ∷ αs) w e = ap (λ m. cond (ltb x w) (length a) 0 + m) (below_sum xs αs w (omega arith))
@@ -104,10 +104,10 @@ blocks_are σ π e w m o = record {
       subst (λ (l : List ℕ). 1 ≤ length l) (sym (blocks_at σ e (length π) i h)) (pattern_filled (fibre σ e i) (at σ r.0) (subst (λ j. In (at σ r.0) (fibre σ e j)) r.2 (at_fibre σ e r.0 0 (omega (arith, m.count, r.1)) r.1)));
 }
 
--- an entry in its fibre: its rank there and the shift make its value
+-- an entry in its fibre: its rank there and that by which the block is raised make its value
 entry_is : (σ π e : List ℕ) (αs : List (List ℕ)) (i v : ℕ) → IsOneToLength σ → Sends π σ e → length αs ≡ length π
     → ((j : ℕ) → j < length π → length (block αs j) ≡ length (fibre σ e j)) → i < length π → In v (fibre σ e i)
-    → suc (smaller v (fibre σ e i)) + shift π αs i ≡ v
+    → suc (smaller v (fibre σ e i)) + raise_of π αs i ≡ v
 entry_is σ π e αs i v w m n same hi iv =
     let k = length π in
     let place = fibre_at σ e i v 0 iv in
@@ -116,7 +116,7 @@ entry_is σ π e αs i v w m n same hi iv =
     let h : ℕ → ℕ = λ j. cond (ltb (at π j) (at π i)) (length (block αs j)) 0 in
     let whole : smaller v σ ≡ sumf g k = ap (smaller v) (sym (fibres_joined σ e k m.count m.children m.rising)) ∙ smaller_joined k v (fibre σ e) in
     let parts : sumf g k ≡ g i + sumf h k = sum_but k i g h hi (λ j hj ne. other j hj ne) (ap (λ b. cond b (length (block αs i)) 0) (le-ltb (at π i) (at π i) (omega arith))) in
-    let low : shift π αs i ≡ sumf h k = below_sum π αs (at π i) n in
+    let low : raise_of π αs i ≡ sumf h k = below_sum π αs (at π i) n in
     let all : suc (smaller v σ) ≡ v = word_smaller σ v w (subst (λ u. 1 ≤ u) place.4 range.0) (subst (λ u. u ≤ length σ) place.4 range.1) in
     omega arith
   where
@@ -144,8 +144,8 @@ map_back f g (x ∷ l) h = ap₂ (λ (a : ℕ) (b : List ℕ). a ∷ b) (h x (in
 pub embedding_value : (σ π e : List ℕ) → IsOneToLength σ → Sends π σ e → inflate π (blocks_of σ e (length π)) ≡ σ
 embedding_value σ π e w m =
     joined_same (lifted π αs) (fibre σ e) (length π) (λ i h.
-    ap (raised (shift π αs i)) (blocks_at σ e (length π) i h)
-    ∙ map_back (λ v. suc (smaller v (fibre σ e i))) (λ v. v + shift π αs i) (fibre σ e i) (λ v iv. entry_is σ π e αs i v w m count (λ j hj. ap length (blocks_at σ e (length π) j hj) ∙ length-map (fibre σ e j) (λ v. suc (smaller v (fibre σ e j)))) h iv))
+    ap (raised (raise_of π αs i)) (blocks_at σ e (length π) i h)
+    ∙ map_back (λ v. suc (smaller v (fibre σ e i))) (λ v. v + raise_of π αs i) (fibre σ e i) (λ v iv. entry_is σ π e αs i v w m count (λ j hj. ap length (blocks_at σ e (length π) j hj) ∙ length-map (fibre σ e j) (λ v. suc (smaller v (fibre σ e j)))) h iv))
     ∙ fibres_joined σ e (length π) m.count m.children m.rising
   where
     αs : List (List ℕ)
@@ -187,11 +187,11 @@ value_embedding σ π αs w b q =
     sym (length_joined k (fibre z e)) ∙ ap length (fibres_joined z e k r.1.count r.1.children r.1.rising) ∙ sym (length-map z (λ (p : Pair). p.to)) ∙ ap length (twins_tos σ ∙ sym q) ∙ length_joined k F in
     let lens = sum_equal k (λ j. length (fibre z e j)) (λ j. length (F j)) (λ j h. placed_le (fibre z e j) (F j) (r.1.held j h)) total in
     let is : (i : ℕ) → i < k → fibre σ e i ≡ F i = λ i h. sym (fibre-map (λ (p : Pair). p.to) z e i ∙ ap (λ l. fibre l e i) (twins_tos σ)) ∙ placed_full (fibre z e i) (F i) (r.1.held i h) (lens i h) in
-    let made : (i : ℕ) → i < k → block αs i ≡ pattern_of (fibre σ e i) = λ i h. sym (ap pattern_of (is i h) ∙ pattern_raised (shift π αs i) (block αs i) ∙ word_pattern (block αs i) (b.words i h)) in (
+    let made : (i : ℕ) → i < k → block αs i ≡ pattern_of (fibre σ e i) = λ i h. sym (ap pattern_of (is i h) ∙ pattern_raised (raise_of π αs i) (block αs i) ∙ word_pattern (block αs i) (b.words i h)) in (
       e,
       r.2,
       λ i h.
-          let n : 1 ≤ length (fibre σ e i) = omega (arith, ap length (is i h), length-map (block αs i) (λ v. v + shift π αs i), b.filled i h) in
+          let n : 1 ≤ length (fibre σ e i) = omega (arith, ap length (is i h), length-map (block αs i) (λ v. v + raise_of π αs i), b.filled i h) in
           let p = fibre_at σ e i (at (fibre σ e i) 0) 0 (In_at (fibre σ e i) 0 0 n) in
           (p.0, p.2, p.3),
       made,

@@ -9,7 +9,7 @@ use Rattle.av_perm.proofs.Membership.{In, In_at, In_joined, In_map, map_In}
 use Rattle.av_perm.proofs.RisingLists.{length_counting, counting_at}
 use Rattle.av_perm.proofs.Pairings.{Pair, froms, Placed, Placed_In, Agree, Has, Contains_Has, Has_Contains, map_joined, Placed_joined, up, up_froms, Placed_up, Placed_down}
 use Rattle.av_perm.proofs.Fibres.{fibre_hit, fibre_miss, fibre_at, at_fibre, fibre-map, fibre_In, fibre_past, Spread, spread, joined_same, fibres_joined}
-use Rattle.av_perm.proofs.Inflations.{shift, lifted, block_order}
+use Rattle.av_perm.proofs.Inflations.{raise_of, lifted, block_order}
 use Rattle.av_perm.proofs.Patterns.{length_pattern}
 use Rattle.av_perm.proofs.Containment.{contains_pattern, contains_one}
 
@@ -75,7 +75,7 @@ contained π γ αs w b c =
     let e : List ℕ = r.0 in (
       e,
       r.2,
-      λ i l ne. (contains_pattern (block αs i) (fibre γ e i)).1 (Has_Contains (block αs i) (fibre γ e i) (has_block (shift π αs i) (block αs i) γ e h.0 i h.1 h.3 (r.1.held i l))),
+      λ i l ne. (contains_pattern (block αs i) (fibre γ e i)).1 (Has_Contains (block αs i) (fibre γ e i) (has_block (raise_of π αs i) (block αs i) γ e h.0 i h.1 h.3 (r.1.held i l))),
     )
 
 -- nothing is contained in anything
@@ -89,8 +89,8 @@ pub containing : (π γ : List ℕ) (αs : List (List ℕ)) → IsOneToLength π
 containing π γ αs w b c =
     Has_Contains (inflate π αs) γ (
       joined zs (length π),
-      map_joined (λ (p : Pair). p.from) zs (length π) ∙ joined_same (λ i. froms (zs i)) (fibre γ e) (length π) (λ i l. up_froms (shift π αs i) (full i).0 ∙ (full i).1) ∙ fibres_joined γ e (length π) m.count m.children m.rising,
-      Placed_joined (length π) zs (lifted π αs) (λ i l. Placed_up (shift π αs i) (full i).0 (block αs i) (full i).2),
+      map_joined (λ (p : Pair). p.from) zs (length π) ∙ joined_same (λ i. froms (zs i)) (fibre γ e) (length π) (λ i l. up_froms (raise_of π αs i) (full i).0 ∙ (full i).1) ∙ fibres_joined γ e (length π) m.count m.children m.rising,
+      Placed_joined (length π) zs (lifted π αs) (λ i l. Placed_up (raise_of π αs i) (full i).0 (block αs i) (full i).2),
       agree,
     )
   where
@@ -107,13 +107,13 @@ containing π γ αs w b c =
     ])
 
     zs : ℕ → List Pair
-    zs i = up (shift π αs i) (full i).0
+    zs i = up (raise_of π αs i) (full i).0
 
-    apart : (p q r t : Pair) (i j : ℕ) → i < length π → j < length π → (i ≡ j → ⊥) → In r (full i).0 → p ≡ record { from = r.from; to = r.to + shift π αs i } → In t (full j).0 → q ≡ record { from = t.from; to = t.to + shift π αs j } → (p.from < q.from) ↔ (p.to < q.to)
+    apart : (p q r t : Pair) (i j : ℕ) → i < length π → j < length π → (i ≡ j → ⊥) → In r (full i).0 → p ≡ record { from = r.from; to = r.to + raise_of π αs i } → In t (full j).0 → q ≡ record { from = t.from; to = t.to + raise_of π αs j } → (p.from < q.from) ↔ (p.to < q.to)
     apart p q r t i j hi hj ne ir ep it eq =
-        let stands : (k : ℕ) (u : Pair) → In u (full k).0 → In (u.to + shift π αs k) (lifted π αs k) = λ k u iu. map_In (λ v. v + shift π αs k) (block αs k) u.to (Placed_In (full k).0 (block αs k) u (full k).2 iu) in
+        let stands : (k : ℕ) (u : Pair) → In u (full k).0 → In (u.to + raise_of π αs k) (lifted π αs k) = λ k u iu. map_In (λ v. v + raise_of π αs k) (block αs k) u.to (Placed_In (full k).0 (block αs k) u (full k).2 iu) in
         let place : (k : ℕ) (u : Pair) → In u (full k).0 → (s : ℕ) × (s < length γ) × (s < length e) × (at e s ≡ k) × (at γ s ≡ u.from) = λ k u iu. fibre_at γ e k u.from 0 (subst (In u.from) (full k).1 (map_In (λ (v : Pair). v.from) (full k).0 u iu)) in
-        let o = block_order π αs i j (r.to + shift π αs i) (t.to + shift π αs j) w b hi hj ne (stands i r ir) (stands j t it) in
+        let o = block_order π αs i j (r.to + raise_of π αs i) (t.to + raise_of π αs j) w b hi hj ne (stands i r ir) (stands j t it) in
         let s = place i r ir in
         let s' = place j t it in
         let g = m.across s.0 s'.0 s.2 s'.2 (λ h. ne (omega arith)) in
@@ -125,7 +125,7 @@ containing π γ αs w b c =
         let qt = ap (λ (u : Pair). u.to) eq in
         (λ l. let a = g.0 (omega arith) in let a' = o.1 (omega arith) in omega arith, λ l. let a = o.0 (omega arith) in let a' = g.1 (omega arith) in omega arith)
 
-    same : (p q r t : Pair) (i : ℕ) → In r (full i).0 → p ≡ record { from = r.from; to = r.to + shift π αs i } → In t (full i).0 → q ≡ record { from = t.from; to = t.to + shift π αs i } → (p.from < q.from) ↔ (p.to < q.to)
+    same : (p q r t : Pair) (i : ℕ) → In r (full i).0 → p ≡ record { from = r.from; to = r.to + raise_of π αs i } → In t (full i).0 → q ≡ record { from = t.from; to = t.to + raise_of π αs i } → (p.from < q.from) ↔ (p.to < q.to)
     same p q r t i ir ep it eq =
         let g = (full i).3 r t ir it in
         let pf = ap (λ (u : Pair). u.from) ep in
@@ -138,10 +138,10 @@ containing π γ αs w b c =
     agree p q ip iq =
         let a = In_joined zs (length π) p ip in
         let a' = In_joined zs (length π) q iq in
-        let r = In_map (λ (u : Pair). record { from = u.from; to = u.to + shift π αs a.0 }) (full a.0).0 p a.2 in
-        let t = In_map (λ (u : Pair). record { from = u.from; to = u.to + shift π αs a'.0 }) (full a'.0).0 q a'.2 in
+        let r = In_map (λ (u : Pair). record { from = u.from; to = u.to + raise_of π αs a.0 }) (full a.0).0 p a.2 in
+        let t = In_map (λ (u : Pair). record { from = u.from; to = u.to + raise_of π αs a'.0 }) (full a'.0).0 q a'.2 in
         elim (cases_eq a.0 a'.0) [
-          | inl h ↦ same p q r.0 t.0 a'.0 (subst (λ k. In r.0 (full k).0) h r.1) (subst (λ k. p ≡ record { from = r.0.from; to = r.0.to + shift π αs k }) h r.2) t.1 t.2
+          | inl h ↦ same p q r.0 t.0 a'.0 (subst (λ k. In r.0 (full k).0) h r.1) (subst (λ k. p ≡ record { from = r.0.from; to = r.0.to + raise_of π αs k }) h r.2) t.1 t.2
           | inr ne ↦ apart p q r.0 t.0 a.0 a'.0 a.1 a'.1 ne r.1 r.2 t.1 t.2
         ]
 

@@ -2,7 +2,7 @@
 use Rattle.std.proofs.Common.{◌≡◌, ℕ, zero, suc, ◌+◌, ◌<◌, ◌≤◌, List, [], ◌∷◌, ◌++◌, length, take, cond, ltb, Bool, true, false, refl, sym, ap, ◌∙◌, arith, append-nil, append_assoc, sum_by, get_or, length-append}
 use Rattle.std.proofs.lemmas.List.{length-map, get_or_default}
 use Rattle.std.proofs.lemmas.List.Sums.{sum_by-take-drop}
-use Rattle.av_perm.specs.Relations.{at, block, raised, inflate, joined, below}
+use Rattle.av_perm.specs.Relations.{at, block, raised, inflate, joined, points_below}
 use Rattle.av_perm.specs.Word.{is_perm}
 use Rattle.av_perm.proofs.Inflations.{below_window, lengths, lengths_sum, length_inflate, inflation_word}
 use Rattle.av_perm.proofs.PermWords.{perm_to, perm_word}
@@ -15,31 +15,31 @@ joined_more (suc n) F = append_assoc (F 0) (joined (λ i. F (suc i)) n) (F (suc 
 
 -- the blocks below a value, one more block
 pub below_more : (v : ℕ) (xs : List ℕ) (αs : List (List ℕ)) (i : ℕ) → i < length xs → i < length αs
-    → below v (take (suc i) xs) (take (suc i) αs) ≡ below v (take i xs) (take i αs) + cond (ltb (at xs i) v) (length (block αs i)) 0
+    → points_below v (take (suc i) xs) (take (suc i) αs) ≡ points_below v (take i xs) (take i αs) + cond (ltb (at xs i) v) (length (block αs i)) 0
 below_more v [] αs i hx ha = absurd (omega arith)
 below_more v (x ∷ xs) [] i hx ha = absurd (omega arith)
 below_more v (x ∷ xs) (a ∷ αs) zero hx ha = omega arith
 below_more v (x ∷ xs) (a ∷ αs) (suc i) hx ha = omega (arith, below_more v xs αs i (omega arith) (omega arith))
 
 -- they are no longer than all together
-pub below_few : (v : ℕ) (xs : List ℕ) (αs : List (List ℕ)) → below v xs αs ≤ sum_by length αs
+pub below_few : (v : ℕ) (xs : List ℕ) (αs : List (List ℕ)) → points_below v xs αs ≤ sum_by length αs
 below_few v xs αs = omega (arith, by v xs αs, lengths_sum αs)
   where
     choose : (b : Bool) (n : ℕ) → cond b n 0 ≤ n
     choose true n = omega arith
     choose false n = omega arith
 
-    by : (v : ℕ) (xs : List ℕ) (αs : List (List ℕ)) → below v xs αs ≤ lengths αs
+    by : (v : ℕ) (xs : List ℕ) (αs : List (List ℕ)) → points_below v xs αs ≤ lengths αs
     by v [] αs = omega arith
     by v (x ∷ xs) [] = omega arith
     by v (x ∷ xs) (a ∷ αs) = omega (arith, choose (ltb x v) (length a), by v xs αs)
 
 -- and neither are the first ones
-pub below_first_few : (v : ℕ) (xs : List ℕ) (αs : List (List ℕ)) (i : ℕ) → below v (take i xs) (take i αs) ≤ sum_by length αs
+pub below_first_few : (v : ℕ) (xs : List ℕ) (αs : List (List ℕ)) (i : ℕ) → points_below v (take i xs) (take i αs) ≤ sum_by length αs
 below_first_few v xs αs i = omega (arith, below_few v (take i xs) (take i αs), sum_by-take-drop (λ (a : List ℕ). length a) αs i)
 
 -- a raised block has room
-pub raise_few : (xs : List ℕ) (αs : List (List ℕ)) (i : ℕ) → i < length xs → i < length αs → below (at xs i) xs αs + length (block αs i) ≤ sum_by length αs
+pub raise_few : (xs : List ℕ) (αs : List (List ℕ)) (i : ℕ) → i < length xs → i < length αs → points_below (at xs i) xs αs + length (block αs i) ≤ sum_by length αs
 raise_few xs αs i hx ha = omega (arith, below_window xs αs i (at xs i) (suc (at xs i)) hx ha refl (omega arith), below_few (suc (at xs i)) xs αs)
 
 -- the first blocks and one more
@@ -51,9 +51,9 @@ joined_few F (a ∷ αs) (suc i) h e =
 
 -- the blocks that stand already leave room for the next
 pub block_room : (π : List ℕ) (αs : List (List ℕ)) (i : ℕ) → i < length αs
-    → length (joined (λ k. raised (below (at π k) π αs) (block αs k)) i) + length (block αs i) ≤ sum_by length αs
+    → length (joined (λ k. raised (points_below (at π k) π αs) (block αs k)) i) + length (block αs i) ≤ sum_by length αs
 block_room π αs i h =
-    omega (arith, lengths_sum αs, joined_few (λ k. raised (below (at π k) π αs) (block αs k)) αs i h (λ k. length-map (block αs k) (λ (v : ℕ). v + below (at π k) π αs)))
+    omega (arith, lengths_sum αs, joined_few (λ k. raised (points_below (at π k) π αs) (block αs k)) αs i h (λ k. length-map (block αs k) (λ (v : ℕ). v + points_below (at π k) π αs)))
 
 -- an element that is read is the block
 pub block_is : (αs : List (List ℕ)) (i : ℕ) (a : List ℕ) → i < length αs → a ≡ get_or αs i a → a ≡ block αs i

@@ -5,21 +5,21 @@ use Rattle.std.proofs.lemmas.List.{length-map}
 use Rattle.std.specs.List.{sum_by}
 use Rattle.std.proofs.lemmas.List.Sums.{sum_by-cons}
 use Rattle.av_perm.specs.Members.{In, Once}
-use Rattle.av_perm.specs.Relations.{at, IsOneToLength, IsWord, AreBlocks, block, raised, inflate, joined, below}
+use Rattle.av_perm.specs.Relations.{at, IsOneToLength, IsWord, AreBlocks, block, raised, inflate, joined, points_below}
 use Rattle.av_perm.specs.Laws.{InflationLaw}
 use Rattle.av_perm.proofs.Membership.{In_at, at_In, In_map, In_joined}
 use Rattle.av_perm.proofs.NoRepeats.{once_from_apart, apart_from_once, once_joined}
 use Rattle.av_perm.proofs.Patterns.{cond_mono}
 
 -- a higher bound lets more blocks lie below it
-below_mono : (xs : List ℕ) (αs : List (List ℕ)) (u v : ℕ) → u ≤ v → below u xs αs ≤ below v xs αs
+below_mono : (xs : List ℕ) (αs : List (List ℕ)) (u v : ℕ) → u ≤ v → points_below u xs αs ≤ points_below v xs αs
 below_mono [] αs u v h = omega arith
 below_mono (x ∷ xs) [] u v h = omega arith
 below_mono (x ∷ xs) (a ∷ αs) u v h = let k = below_mono xs αs u v h in let c = cond_mono x u v (length a) h in omega arith
 
 -- and a whole block more where it passes the block's entry of the root
 pub below_window : (xs : List ℕ) (αs : List (List ℕ)) (i u v : ℕ) → i < length xs → i < length αs → at xs i ≡ u → u < v
-    → below u xs αs + length (block αs i) ≤ below v xs αs
+    → points_below u xs αs + length (block αs i) ≤ points_below v xs αs
 below_window [] αs i u v h k e l = absurd (omega arith)
 below_window (x ∷ xs) [] i u v h k e l = absurd (omega arith)
 below_window (x ∷ xs) (a ∷ αs) zero u v h k e l =
@@ -33,12 +33,12 @@ below_window (x ∷ xs) (a ∷ αs) (suc i) u v h k e l =
     omega arith
 
 -- how far block `i` is raised
-abbrev pub shift : List ℕ → List (List ℕ) → ℕ → ℕ
-shift π αs i = below (at π i) π αs
+abbrev pub raise_of : List ℕ → List (List ℕ) → ℕ → ℕ
+raise_of π αs i = points_below (at π i) π αs
 
 -- block `i` as it stands in the inflation
 abbrev pub lifted : List ℕ → List (List ℕ) → ℕ → List ℕ
-lifted π αs i = raised (shift π αs i) (block αs i)
+lifted π αs i = raised (raise_of π αs i) (block αs i)
 
 -- the entries of a raised word
 pub In_raised : (o : ℕ) (a : List ℕ) (y : ℕ) → IsOneToLength a → In y (raised o a) → (o < y) × (y ≤ o + length a)
@@ -52,8 +52,8 @@ In_raised o a y w h =
 pub block_order : (π : List ℕ) (αs : List (List ℕ)) (i j y y' : ℕ) → IsOneToLength π → AreBlocks π αs → i < length π → j < length π
     → (i ≡ j → ⊥) → In y (lifted π αs i) → In y' (lifted π αs j) → (y < y') ↔ (at π i < at π j)
 block_order π αs i j y y' w b hi hj ne iy iy' =
-    let a = In_raised (shift π αs i) (block αs i) y (b.words i hi) iy in
-    let a' = In_raised (shift π αs j) (block αs j) y' (b.words j hj) iy' in
+    let a = In_raised (raise_of π αs i) (block αs i) y (b.words i hi) iy in
+    let a' = In_raised (raise_of π αs j) (block αs j) y' (b.words j hj) iy' in
     let c = b.count in
     let less : at π i < at π j → y < y' = λ l. let k = below_window π αs i (at π i) (at π j) hi (omega arith) refl l in omega arith in
     let more : at π j < at π i → y' < y = λ l. let k = below_window π αs j (at π j) (at π i) hj (omega arith) refl l in omega arith in
@@ -67,7 +67,7 @@ once_raised o (x ∷ a) d = (λ i. let r = In_map (λ v. v + o) a (x + o) i in l
 
 -- no block lies above the whole inflation
 below_le : (xs : List ℕ) (αs : List (List ℕ)) (o : ℕ → ℕ) (v : ℕ) → length αs ≡ length xs
-    → below v xs αs ≤ length (joined (λ i. raised (o i) (block αs i)) (length xs))
+    → points_below v xs αs ≤ length (joined (λ i. raised (o i) (block αs i)) (length xs))
 below_le [] αs o v e = omega arith
 below_le (x ∷ xs) [] o v e = omega arith
 below_le (x ∷ xs) (a ∷ αs) o v e =
@@ -84,12 +84,12 @@ pub inflation_arrangement : (π : List ℕ) (αs : List (List ℕ)) → IsOneToL
 inflation_arrangement π αs w b = record {
   within = λ s h.
       let r = In_joined (lifted π αs) (length π) (at (inflate π αs) s) (In_at (inflate π αs) s 0 h) in
-      let g = In_raised (shift π αs r.0) (block αs r.0) (at (inflate π αs) s) (b.words r.0 r.1) r.2 in
+      let g = In_raised (raise_of π αs r.0) (block αs r.0) (at (inflate π αs) s) (b.words r.0 r.1) r.2 in
       let k = below_window π αs r.0 (at π r.0) (suc (at π r.0)) r.1 (omega (arith, b.count)) refl (omega arith) in
-      let m = below_le π αs (shift π αs) (suc (at π r.0)) b.count in
+      let m = below_le π αs (raise_of π αs) (suc (at π r.0)) b.count in
       (omega arith, omega arith);
   apart = apart_from_once (inflate π αs) (once_joined (length π) (lifted π αs)
-      (λ i l. once_raised (shift π αs i) (block αs i) (once_from_apart (block αs i) (b.words i l).apart))
+      (λ i l. once_raised (raise_of π αs i) (block αs i) (once_from_apart (block αs i) (b.words i l).apart))
       (λ i j x l m p q.
       let g = block_order π αs i j x x w b (omega arith) m (λ e. omega arith) p q in
       let g' = block_order π αs j i x x w b m (omega arith) (λ e. omega arith) q p in
@@ -115,7 +115,7 @@ length_joined (suc n) F (a ∷ αs) e h =
 
 -- the length of an inflation is that of the blocks together
 pub length_inflate : (π : List ℕ) (αs : List (List ℕ)) → length αs ≡ length π → length (inflate π αs) ≡ lengths αs
-length_inflate π αs e = length_joined (length π) (lifted π αs) αs e (λ i l. length-map (block αs i) (λ (v : ℕ). v + shift π αs i))
+length_inflate π αs e = length_joined (length π) (lifted π αs) αs e (λ i l. length-map (block αs i) (λ (v : ℕ). v + raise_of π αs i))
 
 -- words of at least one entry are together at least as long as they are many
 pub lengths_least : (αs : List (List ℕ)) → ((i : ℕ) → i < length αs → 1 ≤ length (block αs i)) → length αs ≤ lengths αs

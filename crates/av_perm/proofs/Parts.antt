@@ -17,7 +17,7 @@ use Rattle.av_perm.proofs.Tests.{same_refl, finds}
 use Rattle.av_perm.proofs.NoRepeats.{once_from_apart, apart_from_once}
 use Rattle.av_perm.proofs.GeneratedLists.{sizes_from, sizes_to}
 use Rattle.av_perm.proofs.Patterns.{length_pattern, pattern_word, pattern_same, word_pattern, raised_pattern}
-use Rattle.av_perm.proofs.Inflations.{shift, lifted, block_order, length_inflate, lengths_least, lengths_sum}
+use Rattle.av_perm.proofs.Inflations.{raise_of, lifted, block_order, length_inflate, lengths_least, lengths_sum}
 use Rattle.av_perm.proofs.SimpleWords.{simple_law}
 use Rattle.av_perm.proofs.Sums.{sum_law, skew_law}
 use Rattle.av_perm.proofs.RootWords.{root_word}
@@ -69,13 +69,13 @@ pieces_back π αs w b =
     F i = lifted π αs i
 
     long : (i : ℕ) → length (lifted π αs i) ≡ length (block αs i)
-    long i = length-map (block αs i) (λ (v : ℕ). v + shift π αs i)
+    long i = length-map (block αs i) (λ (v : ℕ). v + raise_of π αs i)
 
     pieces : cut (inflate π αs) (map length αs) ≡ listed (lifted π αs) (length αs)
     pieces = ap (λ (n : ℕ). cut (joined (lifted π αs) n) (map length αs)) (sym b.count) ∙ cut_joined αs (lifted π αs) (λ i l. long i)
 
     blocks : map pattern_of (listed (lifted π αs) (length αs)) ≡ αs
-    blocks = patterns_back αs (lifted π αs) (λ i l. raised_pattern (shift π αs i) (block αs i) (b.words i (omega (arith, b.count))))
+    blocks = patterns_back αs (lifted π αs) (λ i l. raised_pattern (raise_of π αs i) (block αs i) (b.words i (omega (arith, b.count))))
 
     heads : List ℕ
     heads = map first (listed (lifted π αs) (length αs))

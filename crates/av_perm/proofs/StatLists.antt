@@ -27,52 +27,52 @@ abbrev with_first : {A : Type 0} → Bool → A → List A → List A
 with_first b x xs = cond b (x ∷ xs) xs
 
 -- the places that hold an entry below x
-below : ℕ → List ℕ → List ℕ
-below x [] = []
-below x (y ∷ ys) = with_first (nat_lt y x) 0 (map suc (below x ys))
+places_below : ℕ → List ℕ → List ℕ
+places_below x [] = []
+places_below x (y ∷ ys) = with_first (nat_lt y x) 0 (map suc (places_below x ys))
 
-below_length : (x : ℕ) (ys : List ℕ) → length (below x ys) ≡ count_by (λ y. nat_lt y x) ys
-unfolding below
+below_length : (x : ℕ) (ys : List ℕ) → length (places_below x ys) ≡ count_by (λ y. nat_lt y x) ys
+unfolding places_below
 below_length x [] = refl
 below_length x (y ∷ ys) = by (nat_lt y x) (below_length x ys) ∙ sym (sum_by-cons (λ (z : ℕ). cond {A = ℕ} (nat_lt z x) 1 0) y ys)
   where
-    by : (b : Bool) → length (below x ys) ≡ count_by (λ y. nat_lt y x) ys → length (with_first b 0 (map suc (below x ys))) ≡ cond {A = ℕ} b 1 0 + count_by (λ y. nat_lt y x) ys
-    by true e = omega (arith, length_map suc (below x ys), e)
-    by false e = omega (arith, length_map suc (below x ys), e)
+    by : (b : Bool) → length (places_below x ys) ≡ count_by (λ y. nat_lt y x) ys → length (with_first b 0 (map suc (places_below x ys))) ≡ cond {A = ℕ} b 1 0 + count_by (λ y. nat_lt y x) ys
+    by true e = omega (arith, length_map suc (places_below x ys), e)
+    by false e = omega (arith, length_map suc (places_below x ys), e)
 
 IsBelow : ℕ → List ℕ → ℕ → Type 0
 IsBelow x ys t = (t < length ys) × (at ys t < x)
 
-below_from : (x : ℕ) (ys : List ℕ) (t : ℕ) → In t (below x ys) → IsBelow x ys t
-unfolding below IsBelow
+below_from : (x : ℕ) (ys : List ℕ) (t : ℕ) → In t (places_below x ys) → IsBelow x ys t
+unfolding places_below IsBelow
 below_from x [] t i = absurd i
 below_from x (y ∷ ys) t i = by (nat_lt y x) refl i (λ t j. below_from x ys t j)
   where
-    later : In t (map suc (below x ys)) → ((t : ℕ) → In t (below x ys) → IsBelow x ys t) → (t < length (y ∷ ys)) × (at (y ∷ ys) t < x)
-    later j ih = let r = In_map suc (below x ys) t j in let k = ih r.0 r.1 in subst (λ s. (s < length (y ∷ ys)) × (at (y ∷ ys) s < x)) (sym r.2) (omega (arith, k.0), k.1)
+    later : In t (map suc (places_below x ys)) → ((t : ℕ) → In t (places_below x ys) → IsBelow x ys t) → (t < length (y ∷ ys)) × (at (y ∷ ys) t < x)
+    later j ih = let r = In_map suc (places_below x ys) t j in let k = ih r.0 r.1 in subst (λ s. (s < length (y ∷ ys)) × (at (y ∷ ys) s < x)) (sym r.2) (omega (arith, k.0), k.1)
 
-    by : (b : Bool) → nat_lt y x ≡ b → In t (with_first b 0 (map suc (below x ys))) → ((t : ℕ) → In t (below x ys) → IsBelow x ys t) → (t < length (y ∷ ys)) × (at (y ∷ ys) t < x)
+    by : (b : Bool) → nat_lt y x ≡ b → In t (with_first b 0 (map suc (places_below x ys))) → ((t : ℕ) → In t (places_below x ys) → IsBelow x ys t) → (t < length (y ∷ ys)) × (at (y ∷ ys) t < x)
     by true e (inl f) ih = subst (λ s. (s < length (y ∷ ys)) × (at (y ∷ ys) s < x)) (sym f) (omega arith, ltb-true y x e)
     by true e (inr j) ih = later j ih
     by false e j ih = later j ih
 
-below_to : (x : ℕ) (ys : List ℕ) (t : ℕ) → IsBelow x ys t → In t (below x ys)
-unfolding below IsBelow
+below_to : (x : ℕ) (ys : List ℕ) (t : ℕ) → IsBelow x ys t → In t (places_below x ys)
+unfolding places_below IsBelow
 below_to x [] t h = absurd (omega (arith, h.0))
 below_to x (y ∷ ys) zero h = rw (lt-ltb y x h.1) (inl refl)
-below_to x (y ∷ ys) (suc t) h = by (nat_lt y x) (map_In suc (below x ys) t (below_to x ys t (omega (arith, h.0), h.1)))
+below_to x (y ∷ ys) (suc t) h = by (nat_lt y x) (map_In suc (places_below x ys) t (below_to x ys t (omega (arith, h.0), h.1)))
   where
-    by : (b : Bool) → In (suc t) (map suc (below x ys)) → In (suc t) (with_first b 0 (map suc (below x ys)))
+    by : (b : Bool) → In (suc t) (map suc (places_below x ys)) → In (suc t) (with_first b 0 (map suc (places_below x ys)))
     by true i = inr i
     by false i = i
 
-below_once : (x : ℕ) (ys : List ℕ) → Once (below x ys)
-unfolding below
+below_once : (x : ℕ) (ys : List ℕ) → Once (places_below x ys)
+unfolding places_below
 below_once x [] = tt
-below_once x (y ∷ ys) = by (nat_lt y x) (once_map suc (below x ys) (λ a b e. cc) (below_once x ys))
+below_once x (y ∷ ys) = by (nat_lt y x) (once_map suc (places_below x ys) (λ a b e. cc) (below_once x ys))
   where
-    by : (b : Bool) → Once (map suc (below x ys)) → Once (with_first b 0 (map suc (below x ys)))
-    by true o = (λ i. let r = In_map suc (below x ys) 0 i in omega (arith, r.2), o)
+    by : (b : Bool) → Once (map suc (places_below x ys)) → Once (with_first b 0 (map suc (places_below x ys)))
+    by true o = (λ i. let r = In_map suc (places_below x ys) 0 i in omega (arith, r.2), o)
     by false o = o
 
 -- the inversions: those with the first place, and those of the rest
@@ -84,21 +84,21 @@ first_with t = (0, suc t)
 
 inversion_list : List ℕ → List (ℕ × ℕ)
 inversion_list [] = []
-inversion_list (x ∷ xs) = map first_with (below x xs) ++ map both_later (inversion_list xs)
+inversion_list (x ∷ xs) = map first_with (places_below x xs) ++ map both_later (inversion_list xs)
 
 inversion_length : (w : List ℕ) → length (inversion_list w) ≡ inversions w
 unfolding inversion_list
 inversion_length [] = refl
-inversion_length (x ∷ xs) = omega (arith, length-append (map first_with (below x xs)) (map both_later (inversion_list xs)), length_map first_with (below x xs), length_map both_later (inversion_list xs), below_length x xs, inversion_length xs)
+inversion_length (x ∷ xs) = omega (arith, length-append (map first_with (places_below x xs)) (map both_later (inversion_list xs)), length_map first_with (places_below x xs), length_map both_later (inversion_list xs), below_length x xs, inversion_length xs)
 
 inversion_from : (w : List ℕ) (p : ℕ × ℕ) → In p (inversion_list w) → IsInversion w p
 unfolding inversion_list both_later first_with IsBelow
 inversion_from [] p i = absurd i
-inversion_from (x ∷ xs) p i = by (In_append_cases (map first_with (below x xs)) (map both_later (inversion_list xs)) p i) (λ q j. inversion_from xs q j)
+inversion_from (x ∷ xs) p i = by (In_append_cases (map first_with (places_below x xs)) (map both_later (inversion_list xs)) p i) (λ q j. inversion_from xs q j)
   where
-    by : In p (map first_with (below x xs)) ⊎ In p (map both_later (inversion_list xs)) → ((q : ℕ × ℕ) → In q (inversion_list xs) → IsInversion xs q) → IsInversion (x ∷ xs) p
+    by : In p (map first_with (places_below x xs)) ⊎ In p (map both_later (inversion_list xs)) → ((q : ℕ × ℕ) → In q (inversion_list xs) → IsInversion xs q) → IsInversion (x ∷ xs) p
     by (inl j) ih =
-        let r = In_map first_with (below x xs) p j in
+        let r = In_map first_with (places_below x xs) p j in
         let k = below_from x xs r.0 r.1 in
         subst (IsInversion (x ∷ xs)) (sym r.2) (record { rising = omega arith; placed = omega (arith, k.0); greater = k.1 })
     by (inr j) ih =
@@ -110,19 +110,19 @@ inversion_to : (w : List ℕ) (s t : ℕ) → IsInversion w (s, t) → In (s, t)
 unfolding inversion_list both_later first_with IsBelow
 inversion_to [] s t h = absurd (omega (arith, h.placed))
 inversion_to (x ∷ xs) s zero h = absurd (omega (arith, h.rising))
-inversion_to (x ∷ xs) zero (suc t) h = append_left (map first_with (below x xs)) (map both_later (inversion_list xs)) (0, suc t) (map_In first_with (below x xs) t (below_to x xs t (omega (arith, h.placed), h.greater)))
+inversion_to (x ∷ xs) zero (suc t) h = append_left (map first_with (places_below x xs)) (map both_later (inversion_list xs)) (0, suc t) (map_In first_with (places_below x xs) t (below_to x xs t (omega (arith, h.placed), h.greater)))
 inversion_to (x ∷ xs) (suc s) (suc t) h =
-    append_right (map first_with (below x xs)) (map both_later (inversion_list xs)) (suc s, suc t)
+    append_right (map first_with (places_below x xs)) (map both_later (inversion_list xs)) (suc s, suc t)
     (map_In both_later (inversion_list xs) (s, t) (inversion_to xs s t (record { rising = omega (arith, h.rising); placed = omega (arith, h.placed); greater = h.greater })))
 
 inversion_once : (w : List ℕ) → Once (inversion_list w)
 unfolding inversion_list both_later first_with
 inversion_once [] = tt
 inversion_once (x ∷ xs) =
-    once_append (map first_with (below x xs)) (map both_later (inversion_list xs))
-    (once_map first_with (below x xs) (λ a b e. second a b e) (below_once x xs))
+    once_append (map first_with (places_below x xs)) (map both_later (inversion_list xs))
+    (once_map first_with (places_below x xs) (λ a b e. second a b e) (below_once x xs))
     (once_map both_later (inversion_list xs) (λ a b e. both a b e) (inversion_once xs))
-    (λ p i j. let r = In_map first_with (below x xs) p i in let q = In_map both_later (inversion_list xs) p j in apart r.0 q.0 (sym r.2 ∙ q.2))
+    (λ p i j. let r = In_map first_with (places_below x xs) p i in let q = In_map both_later (inversion_list xs) p j in apart r.0 q.0 (sym r.2 ∙ q.2))
   where
     second : (a b : ℕ) → first_with a ≡ first_with b → a ≡ b
     second a b e = let f : suc a ≡ suc b = ap (λ (p : ℕ × ℕ). p.1) e in cc

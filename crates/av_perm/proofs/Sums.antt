@@ -6,7 +6,7 @@ use Rattle.std.proofs.lemmas.List.{length-map, get_or-take, get_or-drop, length-
 use Rattle.av_perm.specs.Lists.{same, counting}
 use Rattle.av_perm.specs.WordOrder.{word_same}
 use Rattle.av_perm.specs.Simple.{is_sum_indecomposable, is_skew_indecomposable}
-use Rattle.av_perm.specs.Relations.{IsOneToLength, AreBlocks, block, below, raised, inflate, pattern_of, IsNoInflationOf}
+use Rattle.av_perm.specs.Relations.{IsOneToLength, AreBlocks, block, points_below, raised, inflate, pattern_of, IsNoInflationOf}
 use Rattle.av_perm.specs.Laws.{SumLaw, SkewLaw}
 use Rattle.av_perm.proofs.Membership.{counting_In, In_counting}
 use Rattle.av_perm.proofs.Tests.{all_from, all_to, not_from, not_to, same_refl}
@@ -50,10 +50,10 @@ pair_back x y w a b ga gb e =
     ap₂ (λ (c d : List ℕ). inflate (x ∷ y ∷ []) (c ∷ d ∷ [])) left right ∙ e
   where
     o : ℕ
-    o = below x (x ∷ y ∷ []) (a ∷ b ∷ [])
+    o = points_below x (x ∷ y ∷ []) (a ∷ b ∷ [])
 
     p : ℕ
-    p = below y (x ∷ y ∷ []) (a ∷ b ∷ [])
+    p = points_below y (x ∷ y ∷ []) (a ∷ b ∷ [])
 
     parts : (o p : ℕ) → raised o a ++ (raised p b ++ []) ≡ w → (pattern_of (take (length a) w) ≡ a) × (pattern_of (drop (length a) w) ≡ b)
     parts o p e =
@@ -63,10 +63,10 @@ pair_back x y w a b ga gb e =
         )
 
     left : pattern_of (take (length a) w) ≡ a
-    left = (parts (below x (x ∷ y ∷ []) (a ∷ b ∷ [])) (below y (x ∷ y ∷ []) (a ∷ b ∷ [])) e).0
+    left = (parts (points_below x (x ∷ y ∷ []) (a ∷ b ∷ [])) (points_below y (x ∷ y ∷ []) (a ∷ b ∷ [])) e).0
 
     right : pattern_of (drop (length a) w) ≡ b
-    right = (parts (below x (x ∷ y ∷ []) (a ∷ b ∷ [])) (below y (x ∷ y ∷ []) (a ∷ b ∷ [])) e).1
+    right = (parts (points_below x (x ∷ y ∷ []) (a ∷ b ∷ [])) (points_below y (x ∷ y ∷ []) (a ∷ b ∷ [])) e).1
 
 -- the word is the inflation of the root of two by its two parts
 abbrev cut_test : ℕ → ℕ → List ℕ → ℕ → Bool
@@ -82,7 +82,7 @@ cut_law x y w g = (
 )
   where
     whole : (a b : List ℕ) → inflate (x ∷ y ∷ []) (a ∷ b ∷ []) ≡ w → length w ≡ length a + length b
-    whole a b e = sum (below x (x ∷ y ∷ []) (a ∷ b ∷ [])) (below y (x ∷ y ∷ []) (a ∷ b ∷ [])) e
+    whole a b e = sum (points_below x (x ∷ y ∷ []) (a ∷ b ∷ [])) (points_below y (x ∷ y ∷ []) (a ∷ b ∷ [])) e
       where
         sum : (o p : ℕ) → raised o a ++ (raised p b ++ []) ≡ w → length w ≡ length a + length b
         sum o p e = let f = ap length e in omega (arith, length-append (raised o a) (raised p b ++ []), ap length (append-nil (raised p b)), length-map a (λ (v : ℕ). v + o), length-map b (λ (v : ℕ). v + p))

@@ -3,7 +3,7 @@
 use Rattle.std.specs.Prelude.{◌≡◌, ℕ, ◌+◌, ◌<◌, ◌≤◌, ◌≢◌, ◌↔◌, List, [], ◌∷◌, length, get_or}
 use Rattle.av_perm.specs.Members.{In}
 use Rattle.av_perm.specs.Word.{entry}
-pub use Rattle.av_perm.specs.Inflate.{block, joined, below, raised, inflate}
+pub use Rattle.av_perm.specs.Inflate.{block, joined, points_below, raised, inflate}
 pub use Rattle.av_perm.specs.Pattern.{smaller, pattern_of}
 
 -- the entry of `w` at place `s`

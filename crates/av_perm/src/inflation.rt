@@ -1,7 +1,7 @@
 // The inflation of a word by blocks.
 ghost use Rattle.std.specs.Prelude.{◌≡◌, ◌+◌, ◌<◌, ◌≤◌, ◌++◌, length, slice_index, sum_by, IsTrue};
 ghost use Rattle.av_perm.specs.Word.{is_perm};
-ghost use Rattle.av_perm.specs.Inflate.{below, block, raised, inflate};
+ghost use Rattle.av_perm.specs.Inflate.{points_below, block, raised, inflate};
 
 use crate::limits::MAX_LENGTH;
 use crate::perm::Perm;
@@ -27,7 +27,7 @@ fn raise_of(root: &Perm, blocks: &[Perm], i: usize) -> u8
     requires count { length blocks.now ≡ length root.now }
     requires few { sum_by length blocks.now ≤ MAX_LENGTH }
     requires within { i < length root.now }
-    ensures { result ≡ below (slice_index root.now i) root.now blocks.now }
+    ensures { result ≡ points_below (slice_index root.now i) root.now blocks.now }
 {
     let entry = root.entry(i + 1);
     let mut raise = 0;

@@ -2,7 +2,7 @@
 use Rattle.std.proofs.Common.{◌≡◌, ◌≢◌, ℕ, zero, suc, ◌+◌, ◌*◌, ◌-◌, ◌<◌, ◌≤◌, Bool, true, false, ◌==◌, cond, List, [], ◌∷◌, ◌++◌, length, flat_map, drop, refl, sym, ◌∙◌, ap, ap₂, subst, arith, get_or, length-append, Option, Some, ◌⊎◌, inl, inr, nat_lt}
 use Rattle.std.proofs.lemmas.Bool.{ltb-true}
 use Rattle.av_perm.specs.Lists.{counting}
-use Rattle.av_perm.specs.Inflate.{below, raised, joined, inflate}
+use Rattle.av_perm.specs.Inflate.{points_below, raised, joined, inflate}
 use Rattle.av_perm.proofs.Inflations.{length_inflate, lengths_sum}
 use Rattle.av_decomp.proofs.FormedTrees.{lifted, lifted_room, lifted_all}
 use Rattle.av_sys.specs.declared.terms.Term.{Term}
@@ -25,7 +25,7 @@ use Rattle.av_tree.proofs.TreeWords.{member_word}
 
 -- what lies below an entry of the root, by the sizes chosen
 pub lower_below : (S : System) → IsWellFormed S → (p : ℕ) (root cs : List ℕ) (n : ℕ) (ps : List Pick) → length root ≡ length cs → Fitting (count_at S) cs n ps
-    → below p root (picked (members_at S) cs ps) ≡ lower p root ps
+    → points_below p root (picked (members_at S) cs ps) ≡ lower p root ps
 lower_below S w p [] [] n ps e f = refl
 lower_below S w p [] (c ∷ cs) n ps e f = absurd (omega arith)
 lower_below S w p (q ∷ root) [] n ps e f = absurd (omega arith)

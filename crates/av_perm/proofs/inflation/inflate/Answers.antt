@@ -1,7 +1,7 @@
 -- Each block finds room, and the inflation of words is a word.
 use Rattle.std.proofs.Common.{◌≡◌, ℕ, ◌+◌, inl, inr, List, ◌++◌, length, get_or, add-one, ap, ◌∙◌, arith}
 use Rattle.std.proofs.lemmas.Bool.{cases_eq}
-use Rattle.av_perm.specs.Inflate.{joined, raised, below, block}
+use Rattle.av_perm.specs.Inflate.{joined, raised, points_below, block}
 use Rattle.av_perm.proofs.InflationSteps.{joined_more, raise_few, block_room, block_is, inflation_perm}
 use Rattle.av_perm.proofs.inflation.inflate.Goals as goal
 
@@ -26,10 +26,10 @@ push_raised-requires-clause-low c =
     )
 
 -- one more block, raised
-appended : (π : List ℕ) (αs : List (List ℕ)) (i r : ℕ) (old new a : List ℕ) → old ≡ joined (λ k. raised (below (get_or π k 0) π αs) (block αs k)) i
-    → new ≡ old ++ raised r a → r ≡ below (get_or π i 0) π αs → a ≡ block αs i → new ≡ joined (λ k. raised (below (get_or π k 0) π αs) (block αs k)) (i + 1)
+appended : (π : List ℕ) (αs : List (List ℕ)) (i r : ℕ) (old new a : List ℕ) → old ≡ joined (λ k. raised (points_below (get_or π k 0) π αs) (block αs k)) i
+    → new ≡ old ++ raised r a → r ≡ points_below (get_or π i 0) π αs → a ≡ block αs i → new ≡ joined (λ k. raised (points_below (get_or π k 0) π αs) (block αs k)) (i + 1)
 appended π αs i r old new a eo en er ea =
-    en ∙ rw (eo, er, ea, add-one i) (joined_more i (λ k. raised (below (get_or π k 0) π αs) (block αs k)))
+    en ∙ rw (eo, er, ea, add-one i) (joined_more i (λ k. raised (points_below (get_or π k 0) π αs) (block αs k)))
 
 pub loop-i-preserved : goal.loop-i-preserved
 loop-i-preserved c =

@@ -2,12 +2,12 @@
 use Rattle.std.proofs.Common.{◌≡◌, ℕ, ◌+◌, ◌<◌, List, map, length, take_all, add-one, ap, ap₂, ◌∙◌, arith}
 use Rattle.std.proofs.lemmas.List.{length-map}
 use Rattle.av_perm.specs.Word.{entry}
-use Rattle.av_perm.specs.Relations.{at, below}
+use Rattle.av_perm.specs.Relations.{at, points_below}
 use Rattle.av_perm.proofs.InflationSteps.{below_first_few}
 use Rattle.av_decomp.specs.Trees.{value}
 use Rattle.av_decomp.proofs.FormedTrees.{value_at, lower_more, lower_still}
-use Rattle.av_decomp.proofs.trees.lower_points.Goals as goal
-use Rattle.av_decomp.proofs.trees.lower_points.Goals.{then-entry, else-entry}
+use Rattle.av_decomp.proofs.trees.raise_of.Goals as goal
+use Rattle.av_decomp.proofs.trees.raise_of.Goals.{then-entry, else-entry}
 
 pub overflow_add-lower : goal.overflow_add-lower
 overflow_add-lower c =
@@ -37,5 +37,5 @@ returns c =
     let n = length-map c.args.blocks.now value in
     let e : c.entry-entry.result ≡ at c.args.root.now c.args.i = c.entry-entry.ensures ∙ ap (entry c.args.root.now) (add-one c.args.i) in
     c.loop-k.invariant
-    ∙ ap₂ (λ (π : List ℕ) (αs : List (List ℕ)). below c.entry-entry.result π αs) (take_all c.loop-k.k c.args.root.now (omega arith)) (take_all c.loop-k.k (map value c.args.blocks.now) (omega arith))
-    ∙ ap (λ v. below v c.args.root.now (map value c.args.blocks.now)) e
+    ∙ ap₂ (λ (π : List ℕ) (αs : List (List ℕ)). points_below c.entry-entry.result π αs) (take_all c.loop-k.k c.args.root.now (omega arith)) (take_all c.loop-k.k (map value c.args.blocks.now) (omega arith))
+    ∙ ap (λ v. points_below v c.args.root.now (map value c.args.blocks.now)) e

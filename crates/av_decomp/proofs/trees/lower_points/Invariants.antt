@@ -1,8 +1,0 @@
--- What the blocks before the loop's place add.
-use Rattle.std.proofs.Common.{◌≡◌, map, take}
-use Rattle.av_perm.specs.Inflate.{below}
-use Rattle.av_decomp.specs.Trees.{value}
-use Rattle.av_decomp.proofs.trees.lower_points.Given as goal
-
-abbrev pub invariant-loop-k : goal.invariant-loop-k
-invariant-loop-k l = l.lower ≡ below l.entry (take l.k l.root) (take l.k (map value l.blocks))
