@@ -11,7 +11,7 @@ use Rattle.av_perm.specs.WordOrder.{word_same}
 use Rattle.av_perm.specs.Relations.{at, IsOneToLength, AreBlocks, block, joined, inflate, pattern_of, sum_root, skew_root}
 use Rattle.av_perm.specs.Simple.{is_simple, is_sum_indecomposable, is_skew_indecomposable}
 use Rattle.av_perm.specs.Decompose.{Decomposes, IsRoot}
-use Rattle.av_perm.specs.Parts.{Parts, cut, first, parts_of, is_canonical, parts, PartsLaw}
+use Rattle.av_perm.specs.Parts.{Parts, pieces_of, first, parts_of, is_canonical, parts, PartsLaw}
 use Rattle.av_perm.proofs.Membership.{Each, In_at, at_In, In_map, map_In, In_flat_map, flat_map_In, counting_In}
 use Rattle.av_perm.proofs.Tests.{same_refl, finds}
 use Rattle.av_perm.proofs.NoRepeats.{once_from_apart, apart_from_once}
@@ -29,15 +29,15 @@ listed F zero = []
 listed F (suc n) = F 0 ∷ listed (λ i. F (suc i)) n
 
 -- joined pieces cut at their lengths
-cut_joined : (αs : List (List ℕ)) (F : ℕ → List ℕ) → ((i : ℕ) → i < length αs → length (F i) ≡ length (block αs i))
-    → cut (joined F (length αs)) (map length αs) ≡ listed F (length αs)
-cut_joined [] F h = refl
-cut_joined (a ∷ αs) F h =
+pieces_of_joined : (αs : List (List ℕ)) (F : ℕ → List ℕ) → ((i : ℕ) → i < length αs → length (F i) ≡ length (block αs i))
+    → pieces_of (joined F (length αs)) (map length αs) ≡ listed F (length αs)
+pieces_of_joined [] F h = refl
+pieces_of_joined (a ∷ αs) F h =
     let e : length a ≡ length (F 0) = sym (h 0 (omega arith)) in
     ap₂ (λ (p : List ℕ) (ps : List (List ℕ)). p ∷ ps)
     (ap (λ (n : ℕ). take n (F 0 ++ joined (λ i. F (suc i)) (length αs))) e ∙ take-append_seam (F 0) (joined (λ i. F (suc i)) (length αs)))
-    (ap (λ (w : List ℕ). cut w (map length αs)) (ap (λ (n : ℕ). drop n (F 0 ++ joined (λ i. F (suc i)) (length αs))) e ∙ drop-append_seam (F 0) (joined (λ i. F (suc i)) (length αs)))
-    ∙ cut_joined αs (λ i. F (suc i)) (λ i l. h (suc i) (omega arith)))
+    (ap (λ (w : List ℕ). pieces_of w (map length αs)) (ap (λ (n : ℕ). drop n (F 0 ++ joined (λ i. F (suc i)) (length αs))) e ∙ drop-append_seam (F 0) (joined (λ i. F (suc i)) (length αs)))
+    ∙ pieces_of_joined αs (λ i. F (suc i)) (λ i l. h (suc i) (omega arith)))
 
 -- how many pieces there are
 length_listed : (F : ℕ → List ℕ) (n : ℕ) → length (listed F n) ≡ n
@@ -61,7 +61,7 @@ first_In [] h = absurd (omega arith)
 first_In (x ∷ w) h = inl refl
 
 -- the pieces of an inflation give its root and blocks
-pieces_back : (π : List ℕ) (αs : List (List ℕ)) → IsOneToLength π → AreBlocks π αs → parts_of (cut (inflate π αs) (map length αs)) ≡ record { root = π; blocks = αs }
+pieces_back : (π : List ℕ) (αs : List (List ℕ)) → IsOneToLength π → AreBlocks π αs → parts_of (pieces_of (inflate π αs) (map length αs)) ≡ record { root = π; blocks = αs }
 pieces_back π αs w b =
     ap parts_of pieces ∙ ap₂ (λ (r : List ℕ) (bs : List (List ℕ)). let p : Parts = record { root = r; blocks = bs } in p) root blocks
   where
@@ -71,8 +71,8 @@ pieces_back π αs w b =
     long : (i : ℕ) → length (lifted π αs i) ≡ length (block αs i)
     long i = length-map (block αs i) (λ (v : ℕ). v + raise_of π αs i)
 
-    pieces : cut (inflate π αs) (map length αs) ≡ listed (lifted π αs) (length αs)
-    pieces = ap (λ (n : ℕ). cut (joined (lifted π αs) n) (map length αs)) (sym b.count) ∙ cut_joined αs (lifted π αs) (λ i l. long i)
+    pieces : pieces_of (inflate π αs) (map length αs) ≡ listed (lifted π αs) (length αs)
+    pieces = ap (λ (n : ℕ). pieces_of (joined (lifted π αs) n) (map length αs)) (sym b.count) ∙ pieces_of_joined αs (lifted π αs) (λ i l. long i)
 
     blocks : map pattern_of (listed (lifted π αs) (length αs)) ≡ αs
     blocks = patterns_back αs (lifted π αs) (λ i l. raised_pattern (raise_of π αs i) (block αs i) (b.words i (omega (arith, b.count))))
@@ -142,10 +142,10 @@ once_drop (x ∷ w) (suc n) d = once_drop w n d.1
 
 -- each piece has distinct entries, and so have the first entries
 record Cut (w : List ℕ) (ls : List ℕ) : Type 0 where
-  count : length (cut w ls) ≡ length ls
-  pieces : (p : List ℕ) → In p (cut w ls) → Once p × (1 ≤ length p)
-  heads : Once (map first (cut w ls))
-  inside : (x : ℕ) → In x (map first (cut w ls)) → In x w
+  count : length (pieces_of w ls) ≡ length ls
+  pieces : (p : List ℕ) → In p (pieces_of w ls) → Once p × (1 ≤ length p)
+  heads : Once (map first (pieces_of w ls))
+  inside : (x : ℕ) → In x (map first (pieces_of w ls)) → In x w
 
 -- a word cut at sizes of at least 1 that make its length
 cut_facts : (ls w : List ℕ) → Once w → Each (λ n. 1 ≤ n) ls → sum ls ≡ length w → Cut w ls
@@ -161,12 +161,12 @@ cut_facts (suc n ∷ ls) (x ∷ w) d h e =
       inside = λ y i. within r.inside y i;
     }
   where
-    piece : ((p : List ℕ) → In p (cut (drop n w) ls) → Once p × (1 ≤ length p)) → (p : List ℕ) → In p ((x ∷ take n w) ∷ cut (drop n w) ls)
+    piece : ((p : List ℕ) → In p (pieces_of (drop n w) ls) → Once p × (1 ≤ length p)) → (p : List ℕ) → In p ((x ∷ take n w) ∷ pieces_of (drop n w) ls)
         → Once p × (1 ≤ length p)
     piece f p (inl q) = subst (λ (l : List ℕ). Once l × (1 ≤ length l)) (sym q) ((λ i. d.0 (in_take x w n i), once_take w n d.1), omega arith)
     piece f p (inr i) = f p i
 
-    within : ((y : ℕ) → In y (map first (cut (drop n w) ls)) → In y (drop n w)) → (y : ℕ) → In y (x ∷ map first (cut (drop n w) ls)) → In y (x ∷ w)
+    within : ((y : ℕ) → In y (map first (pieces_of (drop n w) ls)) → In y (drop n w)) → (y : ℕ) → In y (x ∷ map first (pieces_of (drop n w) ls)) → In y (x ∷ w)
     within f y (inl q) = inl q
     within f y (inr i) = inr (in_drop y w n (f y i))
 
@@ -186,21 +186,21 @@ abbrev test : List ℕ → Parts → Bool
 test w p = same w (inflate p.root p.blocks) && is_canonical p
 
 -- parts that pass are a decomposition
-sound : (w : List ℕ) → IsOneToLength w → (ls : List ℕ) → Each (λ n. 1 ≤ n) ls → sum ls ≡ length w → test w (parts_of (cut w ls)) ≡ true
-    → Decomposes w (parts_of (cut w ls)).root (parts_of (cut w ls)).blocks
+sound : (w : List ℕ) → IsOneToLength w → (ls : List ℕ) → Each (λ n. 1 ≤ n) ls → sum ls ≡ length w → test w (parts_of (pieces_of w ls)) ≡ true
+    → Decomposes w (parts_of (pieces_of w ls)).root (parts_of (pieces_of w ls)).blocks
 sound w g ls h e t =
     let c = cut_facts ls w (once_from_apart w g.apart) h e in
-    let q = and_parts (same w (inflate (parts_of (cut w ls)).root (parts_of (cut w ls)).blocks)) (is_canonical (parts_of (cut w ls))) t in
-    let b = length-map (cut w ls) pattern_of in
-    let r = length_pattern (map first (cut w ls)) ∙ length-map (cut w ls) first in
-    let words : (i : ℕ) → i < length (cut w ls) → IsOneToLength (block (map pattern_of (cut w ls)) i) × (1 ≤ length (block (map pattern_of (cut w ls)) i)) = λ i l.
-    let x = get_or-map pattern_of (cut w ls) i [] [] l in
-    let y = c.pieces (block (cut w ls) i) (In_at (cut w ls) i [] l) in
-    subst (λ (v : List ℕ). IsOneToLength v × (1 ≤ length v)) (sym x) (pattern_word (block (cut w ls) i) (apart_from_once (block (cut w ls) i) y.0), omega (arith, length_pattern (block (cut w ls) i), y.1)) in
+    let q = and_parts (same w (inflate (parts_of (pieces_of w ls)).root (parts_of (pieces_of w ls)).blocks)) (is_canonical (parts_of (pieces_of w ls))) t in
+    let b = length-map (pieces_of w ls) pattern_of in
+    let r = length_pattern (map first (pieces_of w ls)) ∙ length-map (pieces_of w ls) first in
+    let words : (i : ℕ) → i < length (pieces_of w ls) → IsOneToLength (block (map pattern_of (pieces_of w ls)) i) × (1 ≤ length (block (map pattern_of (pieces_of w ls)) i)) = λ i l.
+    let x = get_or-map pattern_of (pieces_of w ls) i [] [] l in
+    let y = c.pieces (block (pieces_of w ls) i) (In_at (pieces_of w ls) i [] l) in
+    subst (λ (v : List ℕ). IsOneToLength v × (1 ≤ length v)) (sym x) (pattern_word (block (pieces_of w ls) i) (apart_from_once (block (pieces_of w ls) i) y.0), omega (arith, length_pattern (block (pieces_of w ls) i), y.1)) in
     record {
       blocks = record { count = omega arith; words = λ i l. (words i (omega arith)).0; filled = λ i l. (words i (omega arith)).1 };
-      value = sym (word_same w (inflate (parts_of (cut w ls)).root (parts_of (cut w ls)).blocks) q.0);
-      root = canonical_from (parts_of (cut w ls)) (pattern_word (map first (cut w ls)) (apart_from_once (map first (cut w ls)) c.heads)) (λ i l. (words i (omega arith)).0) q.1;
+      value = sym (word_same w (inflate (parts_of (pieces_of w ls)).root (parts_of (pieces_of w ls)).blocks) q.0);
+      root = canonical_from (parts_of (pieces_of w ls)) (pattern_word (map first (pieces_of w ls)) (apart_from_once (map first (pieces_of w ls)) c.heads)) (λ i l. (words i (omega arith)).0) q.1;
     }
 
 -- the lengths of words are at least 1
@@ -223,7 +223,7 @@ ways w = flat_map (λ k. size_lists k (length w)) (counting 2 (length w - 1))
 
 -- the parts of one way
 abbrev made : List ℕ → List ℕ → Parts
-made w lengths = parts_of (cut w lengths)
+made w lengths = parts_of (pieces_of w lengths)
 
 -- parts of a way that pass are a decomposition
 passing : (w : List ℕ) → IsOneToLength w → (p : Parts) → In p (map (made w) (ways w)) → test w p ≡ true → Decomposes w p.root p.blocks

@@ -11,9 +11,9 @@ pub record Parts : Type 0 where
   pub blocks : List (List ℕ)
 
 -- the word cut into pieces of these lengths
-abbrev pub cut : List ℕ → List ℕ → List (List ℕ)
-cut w [] = []
-cut w (n ∷ lengths) = take n w ∷ cut (drop n w) lengths
+abbrev pub pieces_of : List ℕ → List ℕ → List (List ℕ)
+pieces_of w [] = []
+pieces_of w (n ∷ lengths) = take n w ∷ pieces_of (drop n w) lengths
 
 abbrev pub first : List ℕ → ℕ
 first w = get_or w 0 0
@@ -32,7 +32,7 @@ is_canonical p =
 unfoldable pub parts : List ℕ → Option Parts
 parts w =
     find (λ p. same w (inflate p.root p.blocks) && is_canonical p)
-    (map (λ lengths. parts_of (cut w lengths)) (flat_map (λ k. size_lists k (length w)) (counting 2 (length w - 1))))
+    (map (λ lengths. parts_of (pieces_of w lengths)) (flat_map (λ k. size_lists k (length w)) (counting 2 (length w - 1))))
 
 -- of a word of length at least 2 they are those of its decomposition
 abbrev pub PartsLaw : Type 0
