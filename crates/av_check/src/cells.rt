@@ -14,7 +14,7 @@ use crate::outcomes::Outcomes;
 use crate::roots::first_sign;
 use crate::verdict::Flaw;
 use av_build::MAX_SIZE;
-use av_perm::{Memory, Perm, Words, pattern_of};
+use av_perm::{Memory, Perm, Words, skew_root, sum_root};
 use av_sys::{Equation, Name, Sign, System};
 use av_walk::{CellEnd, Leaves};
 use std::alloc::Global;
@@ -95,7 +95,7 @@ fn sum_fault(
     ensures fault { IfOk result (λ fault. fault ≡ root_fault MAX_SIZE system.now simples.now equation.now sum_root) }
     ensures known { OnOk result (AreOutcomes simples.now outcomes.new) }
 {
-    let root = pattern_of(&[1, 2]);
+    let root = sum_root();
     root_fault(alloc, first, system, simples, equation, &root, outcomes)
 }
 
@@ -116,7 +116,7 @@ fn skew_fault(
     ensures fault { IfOk result (λ fault. fault ≡ root_fault MAX_SIZE system.now simples.now equation.now skew_root) }
     ensures known { OnOk result (AreOutcomes simples.now outcomes.new) }
 {
-    let root = pattern_of(&[2, 1]);
+    let root = skew_root();
     root_fault(alloc, first, system, simples, equation, &root, outcomes)
 }
 

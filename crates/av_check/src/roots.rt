@@ -8,21 +8,21 @@ ghost use Rattle.av_build.specs.Canonical.{same_sign};
 ghost use Rattle.av_walk.specs.Leaves.{name_of_equation, names_at};
 ghost use Rattle.av_check.specs.Verdicts.{first_some, first_sign, are_signed, roots_for, is_wrong_node, wrong_root};
 
-use av_perm::{Perm, Words, pattern_of};
+use av_perm::{Perm, Words, skew_root, sum_root};
 use av_sys::{Children, Equation, Name, Sign, System, Term};
 
 // Whether the word is 12.
 pub fn is_sum_root(root: &Perm) -> bool
     ensures { result ≡ same root.now sum_root }
 {
-    *root == pattern_of(&[1, 2])
+    *root == sum_root()
 }
 
 // Whether the word is 21.
 pub fn is_skew_root(root: &Perm) -> bool
     ensures { result ≡ same root.now skew_root }
 {
-    *root == pattern_of(&[2, 1])
+    *root == skew_root()
 }
 
 // The sign of a root's first child.

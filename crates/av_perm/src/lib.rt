@@ -20,7 +20,7 @@ mod words;
 pub use inflation::inflate;
 pub use lex::Lex;
 pub use limits::{MAX_LENGTH, MAX_PATTERN_LENGTH, MAX_ROOT_LENGTH, MAX_STATISTIC};
-pub use pattern::pattern_of;
+pub use pattern::{pattern_of, skew_root, sum_root};
 pub use perm::{NotPerm, Perm, shortlex};
 pub use simple::is_simple;
 pub use statistics::statistic;

@@ -2,6 +2,7 @@
 ghost use Rattle.std.specs.Prelude.{◌≡◌, ◌≤◌, length, IsTrue};
 ghost use Rattle.av_perm.specs.Word.{is_distinct};
 ghost use Rattle.av_perm.specs.Pattern.{smaller, pattern_of};
+ghost use Rattle.av_perm.specs.Relations.{sum_root, skew_root};
 
 use crate::limits::MAX_LENGTH;
 use crate::perm::Perm;
@@ -20,6 +21,20 @@ pub fn pattern_of(values: &[u8]) -> Perm
         entries.push(1 + smaller(*value, values));
     }
     Perm::from_word(entries)
+}
+
+/// The root of sums, 12. It takes no memory.
+pub fn sum_root() -> Perm
+    ensures { result ≡ sum_root }
+{
+    pattern_of(&[1, 2])
+}
+
+/// The root of skew sums, 21. It takes no memory.
+pub fn skew_root() -> Perm
+    ensures { result ≡ skew_root }
+{
+    pattern_of(&[2, 1])
 }
 
 // How many of the numbers are below one.

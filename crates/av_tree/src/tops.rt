@@ -13,7 +13,7 @@ use arrayvec::ArrayVec;
 use av_count::{term, terms};
 use av_decomp::{Shape, decompose, halves};
 use av_name::{satisfies, satisfies_besides};
-use av_perm::{MAX_ROOT_LENGTH, Perm, Words, pattern_of};
+use av_perm::{MAX_ROOT_LENGTH, Perm, Words, skew_root, sum_root};
 use av_sys::{Children, System, Term};
 
 // A term of an equation, and the blocks for its children.
@@ -213,10 +213,10 @@ pub fn find_top(system: &System, eq: usize, word: &Perm, known: &Words) -> Optio
     requires long { 2 ≤ length word.now }
     ensures { MatchOption result (HasNoTop system.now eq word.now) (λ top. IsTop system.now eq word.now top.term top.blocks.items) }
 {
-    if let Some(top) = find_cut(system, eq, word, known, &pattern_of(&[1, 2])) {
+    if let Some(top) = find_cut(system, eq, word, known, &sum_root()) {
         return Some(top);
     }
-    if let Some(top) = find_cut(system, eq, word, known, &pattern_of(&[2, 1])) {
+    if let Some(top) = find_cut(system, eq, word, known, &skew_root()) {
         return Some(top);
     }
     find_simple(system, eq, word, known)

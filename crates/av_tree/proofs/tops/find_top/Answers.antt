@@ -13,5 +13,5 @@ returns c =
     ((root : List ℕ) (αs : List (List ℕ)) → IsSimple root → AreBlocks root αs → inflate root αs ≡ c.args.word.now → FitsNone c.args.system.now c.args.eq root αs)
     (HasNoTop c.args.system.now c.args.eq c.args.word.now)
     (λ (top : Top). IsTop c.args.system.now c.args.eq c.args.word.now top.term top.blocks.items)
-    (λ s. no_top c.args.system.now c.args.eq c.args.word.now c.pattern_of.result c.pattern_of-2.result c.pattern_of.ensures c.pattern_of-2.ensures c.in_default.ensures c.in_default-find_cut.ensures s)
+    (λ s. no_top c.args.system.now c.args.eq c.args.word.now c.sum_root.result c.skew_root.result c.sum_root.ensures c.skew_root.ensures c.in_default.ensures c.in_default-find_cut.ensures s)
     c.find_simple.ensures
