@@ -1,7 +1,6 @@
 pub mod NameNumbers
 pub mod NameTests
 pub mod Numbers
-pub mod Pointwise
 pub mod RootedTerms
 pub mod NamesOver
 pub mod TermsStand

@@ -3,6 +3,7 @@
 use Rattle.std.proofs.Common.{◌≡◌, ℕ, zero, suc, ◌<◌, ◌≤◌, List, [], ◌∷◌, length, slice_get, Option, Some, None, true, refl, sym, ap, ap₂, ◌∙◌, subst, arith, true≢false}
 use Rattle.av_perm.specs.Relations.{IsWord, AreBlocks, block, inflate}
 use Rattle.av_perm.specs.Decompose.{Decomposes}
+use Rattle.av_perm.specs.Lists.{Pointwise}
 use Rattle.av_perm.proofs.Inflations.{lengths, length_inflate}
 use Rattle.av_perm.proofs.OneDecomposition.{one_decomposition}
 use Rattle.av_decomp.proofs.Decompositions.{root_two, block_shorter}
@@ -15,8 +16,7 @@ use Rattle.av_sys.specs.Terms.{terms_of, term_at, children_of}
 use Rattle.av_sys.specs.Trees.{Tree, Trees, none, more, are_valid, IsTree, sizes, size, size_over, value, values}
 use Rattle.av_sys.specs.Exact.{MeansOf, MeansAt, NamedUpTo, Named}
 use Rattle.av_sys.proofs.TreeSizes.{first_valid, others_valid, size_positive, node_size}
-use Rattle.av_split.specs.Cells.{Pointwise}
-use Rattle.av_build.proofs.Pointwise.{same_length, before_at}
+use Rattle.av_perm.proofs.Pointwise.{same_length, before_at}
 use Rattle.av_sys.proofs.Subtrees.{IsEquation, AllWithin, more_valid, tree_equation, tree_term, term_valid, term_value, subtrees_within}
 
 -- as many words as equations, and each means the name of the equation at its place

@@ -10,7 +10,7 @@ use Rattle.av_perm.specs.Lists.{same}
 use Rattle.av_perm.specs.Contain.{contains}
 use Rattle.av_perm.specs.Class.{minimal, top}
 use Rattle.av_perm.specs.Relations.{IsWord, Contains, pattern_of}
-use Rattle.av_perm.proofs.Membership.{Each, In_joined, In_append_cases, In_map, In_flat_map, append_left, map_In}
+use Rattle.av_perm.proofs.Membership.{Each, In_joined, In_append_cases, In_map, In_flat_map, append_left, map_In, each_all, all_each}
 use Rattle.av_perm.proofs.Containment.{contains_trans}
 use Rattle.av_perm.proofs.Fibres.{fibre_at}
 use Rattle.av_perm.proofs.Occurrences.{contains_from}
@@ -33,7 +33,6 @@ use Rattle.av_build.specs.Drafts.{child_names}
 use Rattle.av_build.specs.Canonical.{is_void}
 use Rattle.av_build.specs.Laws.{Covers}
 use Rattle.av_build.proofs.NamesOver.{child_name_In}
-use Rattle.av_build.proofs.ShortNames.{each_all, all_each}
 use Rattle.av_walk.specs.Walk.{Literal, bare, Leaf}
 use Rattle.av_walk.specs.Leaves.{literals, leaves}
 use Rattle.av_walk.proofs.GenericWalk.{questions_with}

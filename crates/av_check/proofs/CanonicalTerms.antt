@@ -20,7 +20,7 @@ use Rattle.av_split.specs.Boxes.{Box, boxes}
 use Rattle.av_build.specs.Drafts.{Draft, point, node, name_of, child_names, has_point, point_drafts, drafts}
 use Rattle.av_build.specs.Canonical.{same_sign}
 use Rattle.av_build.proofs.NameNumbers.{sign_refl}
-use Rattle.av_build.proofs.Pointwise.{beside}
+use Rattle.av_perm.proofs.Pointwise.{beside}
 use Rattle.av_build.proofs.RootedTerms.{Rooted, rooted, drafts_of, drafts_are, node_parts, root_draft_In, point_is, DraftCases, draft_cases}
 use Rattle.av_build.proofs.DraftsApart.{Distinct, rooted_distinct}
 use Rattle.av_build.proofs.TermsStand.{Numbered, Stands, AllStand}

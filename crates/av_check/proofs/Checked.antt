@@ -4,6 +4,7 @@ use Rattle.std.proofs.Math.Seq.{drop-cons}
 use Rattle.std.proofs.lemmas.Option.{slice_get_within, get_or_from_slice_get}
 use Rattle.av_perm.specs.declared.words.Memory.{Memory}
 use Rattle.av_perm.specs.Word.{ArePerms}
+use Rattle.av_perm.proofs.Membership.{all_each}
 use Rattle.av_sys.specs.declared.names.Name.{Name}
 use Rattle.av_sys.specs.declared.terms.Equation.{Equation}
 use Rattle.av_sys.specs.Names.{IsMadeOfWords}
@@ -11,7 +12,6 @@ use Rattle.av_split.proofs.Cutting.{perms_words}
 use Rattle.av_build.specs.declared.limits.TheConstants.{MAX_SIZE}
 use Rattle.av_build.specs.Canonical.{is_void}
 use Rattle.av_build.proofs.HeldWords.{are_words}
-use Rattle.av_build.proofs.ShortNames.{all_each}
 use Rattle.av_check.specs.declared.claim.Claim.{Claim}
 use Rattle.av_check.specs.declared.fault.Fault.{Fault}
 use Rattle.av_check.specs.declared.verdict.Verdict.{Verdict}

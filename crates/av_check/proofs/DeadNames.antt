@@ -15,7 +15,7 @@ use Rattle.av_build.specs.Drafts.{drafts}
 use Rattle.av_build.specs.Canonical.{grow_from, grown_size, as_system}
 use Rattle.av_build.specs.Alive.{alive}
 use Rattle.av_build.specs.Laws.{IsNameOver}
-use Rattle.av_build.proofs.Pointwise.{before}
+use Rattle.av_perm.proofs.Pointwise.{before}
 use Rattle.av_build.proofs.TermsStand.{Stands}
 use Rattle.av_build.proofs.Growing.{Canonical, canonical, NameAt}
 use Rattle.av_build.proofs.DraftMeanings.{some_shape}

@@ -11,7 +11,7 @@ use Rattle.av_sys.specs.declared.terms.Term.{Term}
 use Rattle.av_build.specs.Drafts.{draft_names, drafts}
 use Rattle.av_build.specs.Canonical.{same_name, with_name, with_names, grow_from, grown_size}
 use Rattle.av_build.proofs.NameNumbers.{name_refl}
-use Rattle.av_build.proofs.Pointwise.{same_length}
+use Rattle.av_perm.proofs.Pointwise.{same_length}
 use Rattle.av_build.proofs.TermsStand.{Stands, FoundAt}
 use Rattle.av_build.proofs.Growing.{StandForName, grow_stays, grow_inv}
 use Rattle.av_build.proofs.GrownSizes.{IsThrough}

@@ -17,7 +17,7 @@ use Rattle.av_build.specs.Drafts.{Draft, point, node, draft_names, drafts}
 use Rattle.av_build.specs.Canonical.{Grown, grow_from, grown_size, as_system}
 use Rattle.av_build.specs.Alive.{alive}
 use Rattle.av_build.specs.Laws.{IsNameOver}
-use Rattle.av_build.proofs.Pointwise.{beside, before}
+use Rattle.av_perm.proofs.Pointwise.{beside, before}
 use Rattle.av_build.proofs.ListPlaces.{get_within, part_sum}
 use Rattle.av_build.proofs.TermsStand.{Numbered, Stands, FoundAt}
 use Rattle.av_build.proofs.Growing.{Canonical, canonical, NameAt, get_In, In_get, grow_inv, grow_each}

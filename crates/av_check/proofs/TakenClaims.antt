@@ -3,7 +3,7 @@ use Rattle.std.proofs.Common.{ℕ, ◌≤◌, List, length}
 use Rattle.av_perm.specs.declared.limits.TheConstants.{MAX_PATTERN_LENGTH}
 use Rattle.av_sys.specs.declared.terms.Equation.{Equation}
 use Rattle.av_perm.proofs.MinimalWords.{each_words}
-use Rattle.av_build.proofs.ShortNames.{each_all}
+use Rattle.av_perm.proofs.Membership.{each_all}
 use Rattle.av_check.specs.declared.claim.Claim.{Claim}
 use Rattle.av_check.specs.Claims.{ArePatterns, IsClaim}
 use Rattle.av_check.specs.Verdicts.{required_of}

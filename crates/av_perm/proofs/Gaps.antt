@@ -5,10 +5,10 @@ use Rattle.std.specs.Cmp.Lexicographic.{slice_cmp}
 use Rattle.std.specs.Ordering.{nat_cmp}
 use Rattle.std.specs.declared.cmp.Ordering.TheVariants.{Less}
 use Rattle.av_perm.specs.Members.{In, IsListOf, Ascending}
-use Rattle.av_perm.specs.Lists.{counting}
+use Rattle.av_perm.specs.Lists.{counting, is_nil}
 use Rattle.av_perm.specs.Word.{shortlex}
 use Rattle.av_perm.specs.WordOrder.{shortlex_total}
-use Rattle.av_perm.specs.Gap.{simples, is_nil, gap, simples_below, IsSettled, IsUnsettled}
+use Rattle.av_perm.specs.Gap.{simples, gap, simples_below, IsSettled, IsUnsettled}
 use Rattle.av_perm.specs.Laws.{IsSimpleBelow, IsGap, IsLeastGap, GapLaw}
 use Rattle.av_perm.proofs.Membership.{In_flat_map, flat_map_In, In_counting, counting_In}
 use Rattle.av_perm.proofs.Tests.{any_from, any_to, find_least, least_find, found_any}

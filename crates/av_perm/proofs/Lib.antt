@@ -1,4 +1,6 @@
 pub mod Membership
+pub mod Pointwise
+pub mod ListLaws
 pub mod Tests
 pub mod NoRepeats
 pub mod Ascending

@@ -1,5 +1,5 @@
 -- Elements of lists: by index, and of lists that are joined, mapped, filtered or counted.
-use Rattle.std.proofs.Common.{◌≡◌, ℕ, zero, suc, ◌+◌, ◌<◌, ◌≤◌, ◌⊎◌, inl, inr, List, [], ◌∷◌, ◌++◌, map, length, get_or, Bool, true, cond, refl, sym, ap, ◌∙◌, subst, arith}
+use Rattle.std.proofs.Common.{◌≡◌, ℕ, zero, suc, ◌+◌, ◌<◌, ◌≤◌, ◌⊎◌, inl, inr, List, [], ◌∷◌, ◌++◌, map, length, get_or, All, Bool, true, cond, refl, sym, ap, ◌∙◌, subst, arith}
 use Rattle.std.specs.List.{filter, flat_map}
 use Rattle.std.proofs.lemmas.Bool.{cases_Bool, cases_eq}
 pub use Rattle.av_perm.specs.Members.{In}
@@ -25,6 +25,14 @@ pub at_In : {A : Type 0} (xs : List A) (a : A) (d : A) → In a xs → (s : ℕ)
 at_In [] a d h = absurd h
 at_In (x ∷ xs) a d (inl e) = (0, omega arith, sym e)
 at_In (x ∷ xs) a d (inr h) = let r = at_In xs a d h in (suc r.0, omega arith, r.2)
+
+-- what holds of each element holds at each index
+pub each_all : {A : Type 0} (Q : A → Type 0) (xs : List A) → Each Q xs → All Q xs
+each_all Q xs h k d lt = h _ (In_at xs k d lt)
+
+-- and the other way round
+pub all_each : {A : Type 0} (Q : A → Type 0) (xs : List A) → All Q xs → Each Q xs
+all_each Q xs h x i = let s = at_In xs x x i in subst Q s.2 (h s.0 x s.1)
 
 -- the only element of a list of one
 pub In_one : {A : Type 0} (x b : A) → In x (b ∷ []) → x ≡ b

@@ -1,17 +1,12 @@
 -- The simple words of a class by length, and where they stop.
-use Rattle.std.specs.Prelude.{ℕ, suc, ◌-◌, Bool, true, false, ◌&&◌, List, [], ◌∷◌, filter, find, Option, Some, None, ◌≡◌, flat_map}
-use Rattle.av_perm.specs.Lists.{counting}
+use Rattle.std.specs.Prelude.{ℕ, suc, ◌-◌, ◌&&◌, List, [], filter, find, Option, Some, None, ◌≡◌, flat_map}
+use Rattle.av_perm.specs.Lists.{counting, is_nil}
 use Rattle.av_perm.specs.Class.{class_at}
 use Rattle.av_perm.specs.Simple.{is_simple}
 
 -- the simple words of length m of the class, in lexicographic order
 unfoldable pub simples : List (List ℕ) → ℕ → List (List ℕ)
 simples basis m = filter is_simple (class_at basis m)
-
--- the list is empty
-abbrev pub is_nil : {X : Type 0} → List X → Bool
-is_nil [] = true
-is_nil (x ∷ xs) = false
 
 -- the least g from 4 to limit - 1 such that the class has no simple word of length g or g + 1; None where there is no such g
 unfoldable pub gap : List (List ℕ) → ℕ → Option ℕ

@@ -11,7 +11,7 @@ use Rattle.av_perm.specs.Class.{minimal, top}
 use Rattle.av_perm.specs.Gap.{simples_below}
 use Rattle.av_perm.specs.Word.{is_perm, ArePerms}
 use Rattle.av_perm.specs.Relations.{IsWord, AreWords, Contains, InClass, InClassWith}
-use Rattle.av_perm.proofs.Membership.{Each, at_In}
+use Rattle.av_perm.proofs.Membership.{Each, at_In, each_all, all_each}
 use Rattle.av_perm.proofs.PermWords.{perm_to}
 use Rattle.av_perm.proofs.MinimalWords.{minimal_is, minimal_again, minimal_words}
 use Rattle.av_perm.proofs.TopWords.{top_is, top_again, top_words, contains_top}
@@ -27,7 +27,7 @@ use Rattle.av_sys.specs.TreeLists.{members}
 use Rattle.av_sys.specs.Exact.{Exact, Named}
 use Rattle.av_build.specs.Canonical.{IsCanonical, first_name, grow, equations_of, as_system}
 use Rattle.av_build.specs.Laws.{AreRoots}
-use Rattle.av_build.proofs.ShortNames.{IsShortOver, first_short, class_short, each_all, all_each}
+use Rattle.av_build.proofs.ShortNames.{IsShortOver, first_short, class_short}
 use Rattle.av_build.proofs.CanonicalForm.{canonical_form_law}
 use Rattle.av_build.proofs.ExactAlways.{exact_law}
 use Rattle.av_build.proofs.LeanForm.{lean_form_law}

@@ -1,8 +1,8 @@
 -- The first length that passes the test of a gap.
 use Rattle.std.proofs.Common.{◌≡◌, ℕ, zero, suc, ◌+◌, ◌-◌, ◌<◌, ◌≤◌, inl, inr, Bool, true, false, ◌&&◌, cond, List, [], ◌∷◌, find, Option, Some, None, refl, ap, ◌∙◌, arith}
 use Rattle.std.proofs.lemmas.Bool.{cases_eq, and_parts}
-use Rattle.av_perm.specs.Lists.{counting}
-use Rattle.av_perm.specs.Gap.{simples, gap, is_nil}
+use Rattle.av_perm.specs.Lists.{counting, is_nil}
+use Rattle.av_perm.specs.Gap.{simples, gap}
 use Rattle.av_simple.specs.declared.outcome.Outcome.TheVariants as outcome
 use Rattle.av_simple.specs.Searched.{outcome_of, outcome_by}
 use Rattle.av_perm.proofs.Membership.{In_counting}

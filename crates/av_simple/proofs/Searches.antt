@@ -1,7 +1,8 @@
 -- The search, length by length.
 use Rattle.std.proofs.Common.{◌≡◌, ℕ, suc, ◌+◌, ◌-◌, ◌<◌, ◌≤◌, inl, inr, true, false, List, [], ◌∷◌, ◌++◌, length, get_or, take, Option, Some, None, refl, sym, ap, ◌∙◌, arith, subst, take_all}
 use Rattle.std.proofs.lemmas.Bool.{cases_eq, and_from, and_parts, false_from_ne_true}
-use Rattle.av_perm.specs.Gap.{simples, gap, is_nil}
+use Rattle.av_perm.specs.Gap.{simples, gap}
+use Rattle.av_perm.specs.Lists.{is_nil}
 use Rattle.av_simple.specs.declared.outcome.Outcome.{Outcome}
 use Rattle.av_simple.specs.declared.outcome.Outcome.TheVariants as outcome
 use Rattle.av_simple.specs.Searched.{Searched, EndsEmpty, IsFound, gap_of, outcome_by, last_by, levels_to, roots_of, roots_by}

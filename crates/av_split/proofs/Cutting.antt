@@ -6,9 +6,11 @@ use Rattle.std.specs.List.{flat_map}
 use Rattle.av_perm.specs.Members.{In}
 use Rattle.av_perm.proofs.Membership.{Each, at_In, append_left, append_right}
 use Rattle.av_perm.proofs.PermWords.{perm_word}
+use Rattle.av_perm.proofs.Pointwise.{pointwise_In}
 use Rattle.av_perm.specs.Word.{is_perm, ArePerms}
 use Rattle.std.proofs.lemmas.List.Elements.{All-get_or}
 use Rattle.av_perm.specs.Relations.{IsWord}
+use Rattle.av_perm.specs.Lists.{Pointwise}
 use Rattle.av_sys.specs.declared.names.Constraint.{Constraint}
 use Rattle.av_name.specs.declared.constraints.Known.{Known}
 use Rattle.av_name.specs.declared.constraints.Known.TheVariants.{Inside, Outside, Open}
@@ -24,7 +26,7 @@ use Rattle.av_split.specs.Split.{both, either, turned, all_of, some_of, Demand, 
 use Rattle.av_split.specs.Boxes.{Question, Box, child_of, added, word_rules, demands, boxes}
 use Rattle.av_split.specs.Laws.{IsTidy}
 use Rattle.av_split.specs.Marks.{unmarked, once, relates, IsSettled, constraint_of, box_of, free_mark}
-use Rattle.av_split.specs.Cells.{Pointwise, question_at, IsQuestionOf, AreQuestionsOf, IsDemandOf, AreDemandsOf, known_at, IsCellOf, HaveCellsOf, IsStep}
+use Rattle.av_split.specs.Cells.{question_at, IsQuestionOf, AreQuestionsOf, IsDemandOf, AreDemandsOf, known_at, IsCellOf, HaveCellsOf, IsStep}
 use Rattle.av_split.specs.Walk.{IsRow, AreRows, IsOpen, AreCuts, IsPath, IsWalk, before, parts_left, parts_of, left_of, CanEnter, AreTurns, IsEntered, Either, GoesBack, Advances, CanStep}
 use Rattle.av_split.proofs.GenericSplit.{both_inside, both_outside, both_out, either_inside, either_outside, either_in, turned_open, open_count, Asks as IsAsked, asks, fewer, boxes_outside, boxes_inside, boxes_more}
 use Rattle.av_split.proofs.WordSplit.{Fine, Apt, word_law, demands_apt}
@@ -91,13 +93,6 @@ module _ (k : ℕ) (ps : List (List ℕ)) (F : Cell → Known) (f : Question →
       (λ (d : Demand Question). first_open (all_of f) (λ (m : List Question). first_open f (λ (q : Question). Some q) m) d.embeddings) (IsQuestionOf k ps) demand_same
       (λ d e i. first_same (AreQuestionsOf k ps) (all_of F) (all_of f) (λ (m : List Cell). first_open F (λ (q : Cell). Some q) m) (λ (m : List Question). first_open f (λ (q : Question). Some q) m) (IsQuestionOf k ps) embedding_same
       (first_same (IsQuestionOf k ps) F f (λ (q : Cell). Some q) (λ (q : Question). Some q) (IsQuestionOf k ps) same (λ x y j. j)) d.embeddings e.embeddings i.embeddings)
-
--- an item of a list has its partner
-pub pointwise_In : {A B : Type 0} (R : A → B → Type 0) (xs : List A) (ys : List B) (x : A) → Pointwise R xs ys → In x xs → (y : B) × R x y
-pointwise_In R [] ys x p i = absurd i
-pointwise_In R (z ∷ xs) [] x p i = absurd p
-pointwise_In R (z ∷ xs) (y ∷ ys) x p (inl e) = (y, subst (λ w. R w y) (sym e) p.0)
-pointwise_In R (z ∷ xs) (y ∷ ys) x p (inr i) = pointwise_In R xs ys x p.1 i
 
 -- a list begins with items of it
 pub take_In : {A : Type 0} (n : ℕ) (xs : List A) (x : A) → In x (take n xs) → In x xs

@@ -1,7 +1,8 @@
 -- Questions by number: a table of children by patterns, and what is known of each of its cells.
-use Rattle.std.specs.Prelude.{◌≡◌, ℕ, ◌<◌, Bool, true, false, List, [], ◌∷◌, ◌++◌, map, length, get_or, Option, Some, None}
+use Rattle.std.specs.Prelude.{◌≡◌, ℕ, ◌<◌, Bool, true, false, List, [], ◌∷◌, map, length, get_or, Option, Some, None}
 use Rattle.av_perm.specs.Members.{In}
 use Rattle.av_perm.specs.Contain.{contains}
+use Rattle.av_perm.specs.Lists.{Pointwise}
 use Rattle.av_name.specs.declared.constraints.Known.{Known}
 use Rattle.av_name.specs.declared.constraints.Known.TheVariants.{Inside, Outside, Open}
 use Rattle.av_split.specs.declared.cells.Cell.{Cell}
@@ -11,17 +12,6 @@ use Rattle.av_split.specs.declared.steps.Step.{Step}
 use Rattle.av_split.specs.declared.steps.Step.TheVariants.{Holds, Fails, Asks}
 use Rattle.av_split.specs.Split.{Demand, all_of, first_open}
 use Rattle.av_split.specs.Boxes.{Question}
-
--- the second list begins with the first
-abbrev pub Extends : List (List ℕ) → List (List ℕ) → Type 0
-Extends ps qs = (more : List (List ℕ)) × (qs ≡ ps ++ more)
-
--- as many items, and each two at the same place are related
-abbrev pub Pointwise : {A B : Type 0} → (A → B → Type 0) → List A → List B → Type 0
-Pointwise R [] [] = Unit {0}
-Pointwise R (x ∷ xs) (y ∷ ys) = R x y × Pointwise R xs ys
-Pointwise R [] (y ∷ ys) = ⊥
-Pointwise R (x ∷ xs) [] = ⊥
 
 -- the question of a cell
 abbrev pub question_at : List (List ℕ) → Cell → Question

@@ -3,9 +3,10 @@ use Rattle.std.proofs.Common.{◌≡◌, ℕ, zero, suc, ◌+◌, ◌<◌, List,
 use Rattle.std.proofs.lemmas.List.{map-append, length-take, length-map}
 use Rattle.std.specs.declared.cmp.Ordering.TheVariants.{Less}
 use Rattle.av_perm.specs.Members.{In}
-use Rattle.av_perm.specs.Lists.{same}
+use Rattle.av_perm.specs.Lists.{same, Extends}
 use Rattle.av_perm.specs.Word.{shortlex}
 use Rattle.av_perm.specs.Class.{insert_by, insert_word, in_shortlex}
+use Rattle.av_perm.proofs.Pointwise.{pointwise_more, pointwise_snoc}
 use Rattle.av_sys.specs.declared.names.Name.{Name}
 use Rattle.av_sys.specs.declared.terms.Term.{Term}
 use Rattle.av_sys.specs.declared.terms.Term.TheVariants.{Point, Node}
@@ -13,8 +14,7 @@ use Rattle.av_sys.specs.declared.terms.Equation.{Equation}
 use Rattle.av_sys.specs.declared.terms.System.{System}
 use Rattle.av_split.specs.declared.cells.Cell.{Cell}
 use Rattle.av_split.specs.Boxes.{Question}
-use Rattle.av_split.specs.Cells.{Extends}
-use Rattle.av_split.proofs.Numbered.{pointwise_more, pointwise_snoc, question_more, take_more}
+use Rattle.av_split.proofs.Numbered.{question_more, take_more}
 use Rattle.av_walk.specs.Walk.{Literal}
 use Rattle.av_walk.specs.Leaves.{name_of_equation, names_at, names_of_root, asks, child_literals, literals}
 use Rattle.av_walk.specs.Numbers.{IsLiteralOf, AreLiteralsOf, AreTermsOf}

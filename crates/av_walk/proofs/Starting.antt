@@ -1,13 +1,13 @@
 -- The walk begins at the box in which nothing is avoided or required.
 use Rattle.std.proofs.Common.{◌≡◌, ℕ, suc, ◌<◌, inl, inr, List, [], ◌∷◌, ◌++◌, map, length, reverse, replicate, slice_get, cond, Bool, true, false, All, Option, Some, None, refl, sym, ap, ◌∙◌, subst, append-nil}
 use Rattle.std.specs.List.{flat_map}
-use Rattle.std.proofs.lemmas.List.Elements.{All-nil, All-get_or}
+use Rattle.std.proofs.lemmas.List.Elements.{All-nil}
 use Rattle.av_perm.specs.Members.{In}
-use Rattle.av_perm.specs.Lists.{same}
+use Rattle.av_perm.specs.Lists.{same, Pointwise}
 use Rattle.av_perm.specs.Word.{is_perm}
 use Rattle.av_perm.specs.Relations.{IsWord}
 use Rattle.av_perm.specs.Class.{in_shortlex}
-use Rattle.av_perm.proofs.Membership.{Each, at_In, In_map, In_append_cases, In_flat_map}
+use Rattle.av_perm.proofs.Membership.{Each, In_map, In_append_cases, In_flat_map, all_each}
 use Rattle.av_perm.proofs.ShortlexLists.{shortlex_In}
 use Rattle.av_sys.specs.Names.{IsMadeOfWords}
 use Rattle.av_sys.specs.declared.names.Name.{Name}
@@ -19,7 +19,7 @@ use Rattle.av_split.specs.declared.cells.Cell.{Cell}
 use Rattle.av_split.specs.Split.{Demand, questions_of}
 use Rattle.av_split.specs.Boxes.{Question, Box, word_rules, demands}
 use Rattle.av_split.specs.Marks.{box_of, free_mark}
-use Rattle.av_split.specs.Cells.{Pointwise, AreDemandsOf, known_at}
+use Rattle.av_split.specs.Cells.{AreDemandsOf, known_at}
 use Rattle.av_split.specs.Walk.{AreRows}
 use Rattle.av_split.proofs.WordSplit.{Apt, demands_apt}
 use Rattle.av_split.proofs.Cutting.{free_rows, free_box, perms_words, some}
@@ -30,10 +30,6 @@ use Rattle.av_walk.specs.Numbers.{IsLiteralOf, AreLiteralsOf, AreTermsOf}
 use Rattle.av_walk.specs.Paths.{asked_of, IsAptLiteral, AreCuts, Inherits, IsPath, IsWalk, parts_left, left_of}
 use Rattle.av_walk.proofs.GenericWalk.{questions_with}
 use Rattle.av_walk.proofs.Numbering.{slice_In}
-
--- what holds of all holds of each
-each_all : {A : Type 0} (P : A → Type 0) (xs : List A) → All P xs → Each P xs
-each_all P xs a x i = let s = at_In xs x x i in subst P s.2 (All-get_or P xs s.0 x s.1 a)
 
 -- what a name asks is about words
 asks_words : (r : Bool) (i : ℕ) (ws : List (List ℕ)) → Each IsWord ws → (l : Literal Question) → In l (map (asks r i) (in_shortlex ws)) → IsWord l.question.word
@@ -95,7 +91,7 @@ apt_literals S root e ps ts named terms t i l j = (child, word)
     word : IsWord l.question.word
     word =
         let ns = In_map (literals 0) (names_of_root S root e.terms) t i in
-        literal_words 0 ns.0 (root_words S (each_all (λ (e : Equation). IsMadeOfWords e.name) S.equations named) root e.terms ns.0 ns.1) l (subst (In l) ns.2 j)
+        literal_words 0 ns.0 (root_words S (all_each (λ (e : Equation). IsMadeOfWords e.name) S.equations named) root e.terms ns.0 ns.1) l (subst (In l) ns.2 j)
 
 -- all questions are apt
 pub apt_questions : (π : List ℕ) (A R : List (List ℕ)) (us : List (List (Literal Question))) → Each IsWord A → Each IsWord R → ((t : List (Literal Question)) → In t us → (l : Literal Question) → In l t → IsAptLiteral (length π) l) → Each (Apt (length π)) (questions_with (demands π A R) us)

@@ -1,6 +1,7 @@
 -- What is known in a box stays known in its parts.
 use Rattle.std.proofs.Common.{◌≡◌, ℕ, ◌<◌, List, take, length, Bool, true, false, Some, sym, ap, ◌∙◌, subst}
 use Rattle.av_perm.specs.Members.{In}
+use Rattle.av_perm.proofs.Pointwise.{pointwise_In}
 use Rattle.av_name.specs.declared.constraints.Known.{Known}
 use Rattle.av_name.specs.declared.constraints.Known.TheVariants.{Inside, Outside, Open}
 use Rattle.av_split.specs.declared.cells.Cell.{Cell}
@@ -9,7 +10,7 @@ use Rattle.av_split.specs.Boxes.{Question}
 use Rattle.av_split.specs.Marks.{once}
 use Rattle.av_split.specs.Cells.{AreDemandsOf}
 use Rattle.av_split.proofs.GenericSplit.{turned_open}
-use Rattle.av_split.proofs.Cutting.{all_pass, demand_pass, turned_twice, inside_open, outside_open, open_none, once_keeps, once_other, pointwise_In, take_In, cell_question}
+use Rattle.av_split.proofs.Cutting.{all_pass, demand_pass, turned_twice, inside_open, outside_open, open_none, once_keeps, once_other, take_In, cell_question}
 use Rattle.av_walk.specs.declared.path.State.{State}
 use Rattle.av_walk.specs.declared.path.State.TheVariants as states
 use Rattle.av_walk.specs.Walk.{Literal, literal_known, term_known}

@@ -5,6 +5,7 @@ use Rattle.std.specs.List.{flat_map}
 use Rattle.av_perm.specs.Members.{In}
 use Rattle.av_perm.specs.Relations.{IsWord}
 use Rattle.av_perm.proofs.Membership.{Each}
+use Rattle.av_perm.proofs.Pointwise.{pointwise_In}
 use Rattle.av_name.specs.declared.constraints.Known.TheVariants.{Open}
 use Rattle.av_split.specs.declared.cells.Cell.{Cell}
 use Rattle.av_split.specs.declared.rows.Mark.{Mark}
@@ -15,7 +16,7 @@ use Rattle.av_split.specs.Cells.{question_at, IsQuestionOf, AreDemandsOf, known_
 use Rattle.av_split.specs.Walk.{AreRows, CanEnter, Either}
 use Rattle.av_split.proofs.GenericSplit.{open_count}
 use Rattle.av_split.proofs.WordSplit.{Fine, Apt, word_law}
-use Rattle.av_split.proofs.Cutting.{cell_known, rows_fine, question_cell, cell_question, pointwise_In, next_box, next_rows, next_known, set_back, none, some, In_reverse, weight, weight_two, weight_some}
+use Rattle.av_split.proofs.Cutting.{cell_known, rows_fine, question_cell, cell_question, next_box, next_rows, next_known, set_back, none, some, In_reverse, weight, weight_two, weight_some}
 use Rattle.av_walk.specs.declared.path.Path.{Path}
 use Rattle.av_walk.specs.declared.path.State.{State}
 use Rattle.av_walk.specs.declared.path.Turn.{Turn}

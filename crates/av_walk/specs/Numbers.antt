@@ -1,8 +1,9 @@
 -- Literals and terms by number: their questions as cells of a table of children by patterns.
 use Rattle.std.specs.Prelude.{◌≡◌, ℕ, List}
+use Rattle.av_perm.specs.Lists.{Pointwise}
 use Rattle.av_split.specs.declared.cells.Cell.{Cell}
 use Rattle.av_split.specs.Boxes.{Question}
-use Rattle.av_split.specs.Cells.{Pointwise, IsQuestionOf}
+use Rattle.av_split.specs.Cells.{IsQuestionOf}
 use Rattle.av_walk.specs.Walk.{Literal}
 
 -- a literal with a cell, of `k` children and these patterns, for its question

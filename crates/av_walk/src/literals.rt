@@ -2,10 +2,10 @@
 ghost use Rattle.std.specs.Prelude.{◌≡◌, ◌<◌, ◌≤◌, ◌++◌, [], ◌∷◌, ℕ, List, map, length, true, IfOk, OnOk};
 ghost use Rattle.av_perm.specs.Class.{in_shortlex};
 ghost use Rattle.av_perm.specs.Members.{In};
+ghost use Rattle.av_perm.specs.Lists.{Extends};
 ghost use Rattle.av_sys.specs.Terms.{IsTermOf};
 ghost use Rattle.av_sys.specs.declared.terms.Term.{Term};
 ghost use Rattle.av_split.specs.Boxes.{Question};
-ghost use Rattle.av_split.specs.Cells.{Extends};
 ghost use Rattle.av_walk.specs.Walk.{Literal};
 ghost use Rattle.av_walk.specs.Leaves.{asks, child_literals, literals, names_at, names_of_root};
 ghost use Rattle.av_walk.specs.Numbers.{AreLiteralsOf, AreTermsOf};

@@ -1,7 +1,7 @@
 -- The next name of the equations joins the others, and at the end there is none left.
 use Rattle.std.proofs.Common.{◌≡◌, ℕ, ◌+◌, ◌-◌, ◌≤◌, [], length, All, slice_get, List, Some, refl, sym, ap, ◌∙◌, subst, arith}
 use Rattle.av_perm.specs.declared.limits.TheConstants.{MAX_PATTERN_LENGTH}
-use Rattle.av_perm.proofs.Membership.{In, In_at}
+use Rattle.av_perm.proofs.Membership.{In, In_at, each_all, all_each}
 use Rattle.av_build.proofs.Growing.{get_In}
 use Rattle.av_split.proofs.Cutting.{perms_words}
 use Rattle.av_perm.specs.Word.{ArePerms}
@@ -9,7 +9,7 @@ use Rattle.av_sys.specs.declared.names.Name.{Name}
 use Rattle.av_sys.specs.declared.terms.Equation.{Equation}
 use Rattle.av_build.specs.Drafts.{drafts}
 use Rattle.av_build.specs.Adding.{HasTerms}
-use Rattle.av_build.proofs.ShortNames.{HasShortWords, IsShortOver, each_all, all_each}
+use Rattle.av_build.proofs.ShortNames.{HasShortWords, IsShortOver}
 use Rattle.av_build.proofs.Growth.{HasGrown, grown_first, grown_short, grown_next, grown_too_large, grown_whole}
 use Rattle.av_build.proofs.building.grow.Goals as goal
 

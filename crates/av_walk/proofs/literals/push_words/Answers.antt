@@ -1,6 +1,6 @@
 -- The next word.
 use Rattle.std.proofs.Common.{◌∙◌, ◌++◌, ◌∷◌, [], refl, ap, arith}
-use Rattle.av_split.proofs.Numbered.{extends_trans}
+use Rattle.av_perm.proofs.ListLaws.{extends_trans}
 use Rattle.av_walk.proofs.Numbering.{word_next}
 use Rattle.av_walk.proofs.literals.push_words.Goals as goal
 

@@ -1,7 +1,7 @@
 -- The words gone through are asked about.
 use Rattle.std.proofs.Common.{ℕ, ◌<◌, ◌++◌, List, take, map}
+use Rattle.av_perm.specs.Lists.{Extends}
 use Rattle.av_split.specs.Boxes.{Question}
-use Rattle.av_split.specs.Cells.{Extends}
 use Rattle.av_walk.specs.Walk.{Literal}
 use Rattle.av_walk.specs.Leaves.{asks}
 use Rattle.av_walk.specs.Numbers.{AreLiteralsOf}

@@ -1,6 +1,6 @@
 -- What the next child is asked.
 use Rattle.std.proofs.Common.{length, refl, sym, subst, arith, ◌+◌}
-use Rattle.av_split.proofs.Numbered.{extends_trans}
+use Rattle.av_perm.proofs.ListLaws.{extends_trans}
 use Rattle.av_walk.specs.Numbers.{AreLiteralsOf}
 use Rattle.av_walk.proofs.Numbering.{slice_In, child_next}
 use Rattle.av_walk.proofs.literals.term_of.Goals as goal

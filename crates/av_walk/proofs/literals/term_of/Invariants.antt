@@ -1,6 +1,6 @@
 -- The children gone through are asked.
 use Rattle.std.proofs.Common.{length, take}
-use Rattle.av_split.specs.Cells.{Extends}
+use Rattle.av_perm.specs.Lists.{Extends}
 use Rattle.av_walk.specs.Leaves.{names_at, literals}
 use Rattle.av_walk.specs.Numbers.{AreLiteralsOf}
 use Rattle.av_walk.proofs.literals.term_of.Given as goal

@@ -1,6 +1,6 @@
 -- The next term.
 use Rattle.std.proofs.Common.{◌+◌, length, refl, arith}
-use Rattle.av_split.proofs.Numbered.{extends_trans}
+use Rattle.av_perm.proofs.ListLaws.{extends_trans}
 use Rattle.av_split.proofs.Walks.{item_in}
 use Rattle.av_walk.proofs.Numbering.{term_next}
 use Rattle.av_walk.proofs.literals.terms_of.Goals as goal

@@ -1,6 +1,6 @@
 -- The terms gone through that have the root.
 use Rattle.std.proofs.Common.{length, map, take}
-use Rattle.av_split.specs.Cells.{Extends}
+use Rattle.av_perm.specs.Lists.{Extends}
 use Rattle.av_walk.specs.Leaves.{names_of_root, literals}
 use Rattle.av_walk.specs.Numbers.{AreTermsOf}
 use Rattle.av_walk.proofs.literals.terms_of.Given as goal

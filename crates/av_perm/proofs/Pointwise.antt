@@ -1,7 +1,8 @@
 -- Two lists that are related place by place.
-use Rattle.std.proofs.Common.{◌≡◌, ℕ, zero, suc, ◌<◌, List, [], ◌∷◌, length, get_or, slice_get, Some, refl, ap, subst}
+use Rattle.std.proofs.Common.{◌≡◌, ℕ, zero, suc, ◌<◌, inl, inr, List, [], ◌∷◌, ◌++◌, length, get_or, slice_get, Some, refl, sym, ap, subst}
 use Rattle.std.proofs.lemmas.Option.{slice_get-get_or}
-use Rattle.av_split.specs.Cells.{Pointwise}
+use Rattle.av_perm.specs.Members.{In}
+use Rattle.av_perm.specs.Lists.{Pointwise}
 
 module _ {A B : Type 0} (R : A → B → Type 0) where
   -- they have one length
@@ -42,3 +43,24 @@ chained R S T f [] (y ∷ ys) zs h k = absurd h
 chained R S T f (x ∷ xs) [] zs h k = absurd h
 chained R S T f (x ∷ xs) (y ∷ ys) [] h k = absurd k
 chained R S T f (x ∷ xs) (y ∷ ys) (z ∷ zs) h k = (f x y z h.0 k.0, chained R S T f xs ys zs h.1 k.1)
+
+-- a stronger relation item by item
+pub pointwise_more : {A B : Type 0} (R S : A → B → Type 0) → ((x : A) (y : B) → R x y → S x y) → (xs : List A) (ys : List B) → Pointwise R xs ys → Pointwise S xs ys
+pointwise_more R S h [] [] p = tt
+pointwise_more R S h [] (y ∷ ys) p = absurd p
+pointwise_more R S h (x ∷ xs) [] p = absurd p
+pointwise_more R S h (x ∷ xs) (y ∷ ys) p = (h x y p.0, pointwise_more R S h xs ys p.1)
+
+-- one more item on both sides
+pub pointwise_snoc : {A B : Type 0} (R : A → B → Type 0) (xs : List A) (ys : List B) (x : A) (y : B) → Pointwise R xs ys → R x y → Pointwise R (xs ++ x ∷ []) (ys ++ y ∷ [])
+pointwise_snoc R [] [] x y p r = (r, tt)
+pointwise_snoc R [] (z ∷ ys) x y p r = absurd p
+pointwise_snoc R (z ∷ xs) [] x y p r = absurd p
+pointwise_snoc R (z ∷ xs) (w ∷ ys) x y p r = (p.0, pointwise_snoc R xs ys x y p.1 r)
+
+-- an item of a list has its partner
+pub pointwise_In : {A B : Type 0} (R : A → B → Type 0) (xs : List A) (ys : List B) (x : A) → Pointwise R xs ys → In x xs → (y : B) × R x y
+pointwise_In R [] ys x p i = absurd i
+pointwise_In R (z ∷ xs) [] x p i = absurd p
+pointwise_In R (z ∷ xs) (y ∷ ys) x p (inl e) = (y, subst (λ w. R w y) (sym e) p.0)
+pointwise_In R (z ∷ xs) (y ∷ ys) x p (inr i) = pointwise_In R xs ys x p.1 i
