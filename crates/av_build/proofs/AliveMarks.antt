@@ -6,6 +6,7 @@ use Rattle.std.proofs.lemmas.List.{length-map}
 use Rattle.std.proofs.lemmas.List.Sums.{count_by-le-length}
 use Rattle.av_perm.specs.Members.{In}
 use Rattle.av_perm.proofs.Tests.{any_from, any_to, all_from}
+use Rattle.av_perm.proofs.ListLaws.{get_In}
 use Rattle.av_sys.specs.declared.terms.Term.{Term}
 use Rattle.av_sys.specs.declared.terms.Equation.{Equation}
 use Rattle.av_sys.specs.declared.terms.System.{System}
@@ -15,7 +16,7 @@ use Rattle.av_sys.proofs.TreeSizes.{first_valid, others_valid}
 use Rattle.av_sys.proofs.Subtrees.{more_valid, equation_term, term_valid}
 use Rattle.av_build.specs.Alive.{IsAlive, has_marked, mark_next, marks_within, alive_marks, alive, AliveLaw}
 use Rattle.av_build.specs.Rounds.{Below}
-use Rattle.av_build.proofs.Growing.{get_In, In_get}
+use Rattle.av_build.proofs.Growing.{In_get}
 use Rattle.av_build.proofs.MarkOrder.{below_cases, below_trans, next_below, none_below}
 
 -- allowing one more level keeps the marks

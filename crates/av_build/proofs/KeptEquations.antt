@@ -9,13 +9,14 @@ use Rattle.std.proofs.Math.Seq.{take-suc}
 use Rattle.av_perm.specs.Members.{In, Once}
 use Rattle.av_perm.proofs.Membership.{Each, In_one, In_flat_map, flat_map_In, In_filter}
 use Rattle.av_perm.proofs.Tests.{all_from}
+use Rattle.av_perm.proofs.ListLaws.{past_end}
 use Rattle.av_sys.specs.declared.terms.Term.{Term}
 use Rattle.av_sys.specs.declared.terms.System.{System}
 use Rattle.av_sys.specs.Terms.{terms_at, children_of}
 use Rattle.av_build.specs.Alive.{has_marked, alive_marks, alive}
 use Rattle.av_build.specs.Lean.{live_terms, used, with_numbers, visit, found_after, kept, IsUsedBefore, IsNumbering}
 use Rattle.av_build.proofs.AliveMarks.{alive_within}
-use Rattle.av_build.proofs.ListPlaces.{past_end, once_few}
+use Rattle.av_build.proofs.ListPlaces.{once_few}
 use Rattle.av_build.proofs.FoundNumbers.{IsLonger, all_longer, longer_length, longer_get, longer_old, longer_new, all_In, found_from, all_once, numbers_append}
 
 -- a child of a live term is alive

@@ -6,6 +6,7 @@ use Rattle.std.proofs.lemmas.Option.{slice_get_within}
 use Rattle.av_perm.specs.Lists.{counting}
 use Rattle.av_perm.specs.Members.{In}
 use Rattle.av_perm.proofs.Membership.{Each, In_map, In_filter}
+use Rattle.av_perm.proofs.ListLaws.{get_In}
 use Rattle.av_sys.specs.declared.terms.Term.{Term}
 use Rattle.av_sys.specs.declared.terms.Term.TheVariants.{Point, Node}
 use Rattle.av_sys.specs.declared.terms.Equation.{Equation}
@@ -15,7 +16,6 @@ use Rattle.av_build.specs.Canonical.{system_size}
 use Rattle.av_build.specs.Alive.{has_marked, alive_marks}
 use Rattle.av_build.specs.Lean.{live_terms, place_of, renumbered, lean_equation, lean_over, kept, IsNumbering}
 use Rattle.av_build.specs.LeanLaws.{LeanFormLaw}
-use Rattle.av_build.proofs.Growing.{get_In}
 use Rattle.av_build.proofs.ListPlaces.{part_sum, below_In, once_few}
 use Rattle.av_build.proofs.FoundNumbers.{place_within}
 use Rattle.av_build.proofs.KeptEquations.{child_used, kept_numbering, numbering_first, numbering_once, numbering_within, numbering_closed}

@@ -4,6 +4,7 @@ use Rattle.std.proofs.Common.{◌≡◌, ℕ, ◌≤◌, List, map, length, slic
 use Rattle.std.proofs.lemmas.List.{length-map}
 use Rattle.av_perm.specs.Members.{In}
 use Rattle.av_perm.proofs.Membership.{In_map}
+use Rattle.av_perm.proofs.ListLaws.{get_In, get_within}
 use Rattle.av_sys.specs.declared.terms.Term.{Term}
 use Rattle.av_sys.specs.declared.terms.Term.TheVariants.{Point, Node}
 use Rattle.av_sys.specs.declared.terms.Equation.{Equation}
@@ -17,9 +18,8 @@ use Rattle.av_sys.proofs.Subtrees.{tree_equation}
 use Rattle.av_build.specs.Alive.{IsAlive, alive}
 use Rattle.av_build.specs.Lean.{live_terms, used, place_of, renumbered, name_of, lean_equation, kept, lean}
 use Rattle.av_build.specs.LeanLaws.{StemsFrom, KeptLaw, LeanMembersLaw, LeanAliveLaw, HasSameTrees, LeanTreesLaw, LeanNamedLaw}
-use Rattle.av_build.proofs.Growing.{get_In}
 use Rattle.av_build.proofs.AliveMarks.{alive_tree}
-use Rattle.av_build.proofs.ListPlaces.{get_within, get_map, map_get}
+use Rattle.av_build.proofs.ListPlaces.{get_map, map_get}
 use Rattle.av_build.proofs.FoundNumbers.{place_at}
 use Rattle.av_build.proofs.KeptEquations.{child_alive, child_used, kept_numbering, numbering_first, numbering_once, numbering_within, numbering_closed, numbering_alive}
 use Rattle.av_build.proofs.LeanValues.{lean_terms, members_kept}

@@ -5,11 +5,11 @@ use Rattle.std.proofs.lemmas.Grind.{flat_map-append}
 use Rattle.std.proofs.lemmas.List.{take_all, take-append-drop}
 use Rattle.av_perm.specs.Members.{In}
 use Rattle.av_perm.proofs.Membership.{flat_map_In}
+use Rattle.av_perm.proofs.ListLaws.{once_place}
 use Rattle.av_sys.specs.declared.terms.System.{System}
 use Rattle.av_build.specs.Lean.{used, with_numbers, kept, lean_over, IsNumbering}
 use Rattle.av_build.specs.LeanLaws.{IsLeanLaw}
 use Rattle.av_build.proofs.Growing.{In_get}
-use Rattle.av_build.proofs.ListPlaces.{once_place}
 use Rattle.av_build.proofs.FoundNumbers.{IsLonger, all_longer, longer_get, all_In, numbers_append}
 use Rattle.av_build.proofs.KeptEquations.{kept_numbering, numbering_first, numbering_once}
 

@@ -9,6 +9,7 @@ use Rattle.av_perm.specs.Members.{In}
 use Rattle.av_perm.proofs.Membership.{Each, nil_from}
 use Rattle.av_perm.proofs.GeneratedLists.{sizes_from}
 use Rattle.av_perm.proofs.Tests.{all_fails}
+use Rattle.av_perm.proofs.ListLaws.{get_In, flat_map_each}
 use Rattle.av_sys.specs.declared.terms.Term.{Term}
 use Rattle.av_sys.specs.declared.terms.Term.TheVariants.{Point, Node}
 use Rattle.av_sys.specs.declared.terms.System.{System}
@@ -19,12 +20,11 @@ use Rattle.av_sys.proofs.TreeSizes.{nodes_branch}
 use Rattle.av_sys.proofs.TreesFit.{trees_fit}
 use Rattle.av_build.specs.Alive.{has_marked, alive_marks, alive}
 use Rattle.av_build.specs.Lean.{live_terms, used, place_of, renumbered, lean_equation, lean_over}
-use Rattle.av_build.proofs.Growing.{get_In}
 use Rattle.av_build.proofs.AliveMarks.{tree_alive}
 use Rattle.av_build.proofs.ListPlaces.{get_map}
 use Rattle.av_build.proofs.FoundNumbers.{place_at}
 use Rattle.av_build.proofs.KeptEquations.{child_used}
-use Rattle.av_build.proofs.TermValues.{values_at, term_values, values_up_to, flat_same, flat_nil, values_step}
+use Rattle.av_build.proofs.TermValues.{values_at, term_values, values_up_to, flat_nil, values_step}
 
 -- elements that fail the test may be left out where they make nothing
 flat_filter : {A B : Type 0} (f : A → List B) (test : A → Bool) (xs : List A) → ((x : A) → test x ≡ false → f x ≡ []) → flat_map f (filter test xs) ≡ flat_map f xs
@@ -66,7 +66,7 @@ term_renumbered : (below other : ℕ → ℕ → List (List ℕ)) (found : List 
 term_renumbered below other found n Point h = refl
 term_renumbered below other found n (Node root cs) h =
     ap (λ k. flat_map (inflated below (map (place_of found) cs)) (size_lists k n)) (length-map cs (place_of found))
-    ∙ flat_same (inflated below (map (place_of found) cs)) (inflated other cs) (size_lists (length cs) n)
+    ∙ flat_map_each (inflated below (map (place_of found) cs)) (inflated other cs) (size_lists (length cs) n)
     (λ ns i. ap (λ l. map (inflate root) (products l)) (values_renumbered below other found cs ns h))
   where
     inflated : (ℕ → ℕ → List (List ℕ)) → List ℕ → List ℕ → List (List ℕ)
@@ -97,7 +97,7 @@ module _ (S : System) (form : IsWellFormed S) where
         values_step (lean_over S found) d v n
         ∙ ap (flat_map (term_values (values_up_to (lean_over S found) d) n)) (lean_terms S found v u e)
         ∙ flat_map-map (term_values (values_up_to (lean_over S found) d) n) (renumbered found) (live_terms S u)
-        ∙ flat_same (λ t. term_values (values_up_to (lean_over S found) d) n (renumbered found t)) (term_values (values_up_to S d) n) (live_terms S u)
+        ∙ flat_map_each (λ t. term_values (values_up_to (lean_over S found) d) n (renumbered found t)) (term_values (values_up_to S d) n) (live_terms S u)
         (λ t i. term_renumbered (values_up_to (lean_over S found) d) (values_up_to S d) found n t
         (λ c j m. values_kept d (place_of found c) c m (place_at found c (closed u (get_In found v u e) c (child_used S u c t i j)))))
         ∙ flat_filter (term_values (values_up_to S d) n) (has_marked (alive_marks S.equations)) (terms_at S u) (dead_term d n)

@@ -2,24 +2,13 @@
 -- list.
 use Rattle.std.proofs.Common.{◌≡◌, ℕ, zero, suc, ◌≤◌, ◌<◌, inl, inr, List, [], ◌∷◌, ◌++◌, map, length, slice_get, sum_by, Some, None, refl, sym, ap, ◌∙◌, subst, arith}
 use Rattle.std.specs.Option.{option_map}
-use Rattle.std.proofs.lemmas.Bool.{cases_lt}
 use Rattle.std.proofs.lemmas.List.Sums.{sum_by-append, sum_by-cons}
 use Rattle.std.proofs.lemmas.Option.{slice_get-map}
 use Rattle.av_perm.specs.Members.{In, Once}
 use Rattle.av_perm.specs.Lists.{counting}
 use Rattle.av_perm.proofs.Membership.{Each, In_append_cases, append_left, append_right, counting_In}
 use Rattle.av_perm.proofs.RisingLists.{length_counting}
-use Rattle.av_build.proofs.Growing.{get_In}
-
--- an index within a list has an element
-pub get_within : {A : Type 0} (xs : List A) (i : ℕ) → i < length xs → (x : A) × (slice_get xs i ≡ Some x)
-get_within [] i h = absurd (omega arith)
-get_within (x ∷ xs) zero h = (x, refl)
-get_within (x ∷ xs) (suc i) h = get_within xs i (omega arith)
-
--- so an index without an element is past the end
-pub past_end : {A : Type 0} (xs : List A) (i : ℕ) → slice_get xs i ≡ None → length xs ≤ i
-past_end xs i e = elim (cases_lt i (length xs)) [ inl h ↦ let x = get_within xs i h in absurd (let z : None ≡ Some x.0 = sym e ∙ x.1 in cc) | inr h ↦ h ]
+use Rattle.av_perm.proofs.ListLaws.{get_In, get_within}
 
 -- an element of a list stays at its place when the list grows at its end
 pub get_longer : {A : Type 0} (xs extra : List A) (i : ℕ) (x : A) → slice_get xs i ≡ Some x → slice_get (xs ++ extra) i ≡ Some x
@@ -46,14 +35,6 @@ pub map_get : {A B : Type 0} (f : A → B) (xs : List A) (i : ℕ) (y : B) → s
 map_get f [] i y e = absurd (let z : None ≡ Some y = e in cc)
 map_get f (x ∷ xs) zero y e = let z : Some (f x) ≡ Some y = e in let s : f x ≡ y = cc in (x, refl, sym s)
 map_get f (x ∷ xs) (suc i) y e = map_get f xs i y e
-
--- an element comes at one place of a list without repeats
-pub once_place : {A : Type 0} (xs : List A) (i j : ℕ) (x : A) → Once xs → slice_get xs i ≡ Some x → slice_get xs j ≡ Some x → i ≡ j
-once_place [] i j x o e f = absurd (let z : None ≡ Some x = e in cc)
-once_place (y ∷ xs) zero zero x o e f = refl
-once_place (y ∷ xs) zero (suc j) x o e f = absurd (o.0 (let z : Some y ≡ Some x = e in let s : y ≡ x = cc in subst (λ w. In w xs) (sym s) (get_In xs j x f)))
-once_place (y ∷ xs) (suc i) zero x o e f = absurd (o.0 (let z : Some y ≡ Some x = f in let s : y ≡ x = cc in subst (λ w. In w xs) (sym s) (get_In xs i x e)))
-once_place (y ∷ xs) (suc i) (suc j) x o e f = ap suc (once_place xs i j x o.1 e f)
 
 -- a list is cut at each of its elements
 split_In : {A : Type 0} (ys : List A) (x : A) → In x ys → (us : List A) × (vs : List A) × (ys ≡ us ++ x ∷ vs)

@@ -21,8 +21,9 @@ use Rattle.av_build.proofs.RootedTerms.{DraftCases, draft_cases, root_draft_In}
 use Rattle.av_build.proofs.NamesOver.{first_name_ok}
 use Rattle.av_build.proofs.BareSystems.{void_none, bare_named, class_cases}
 use Rattle.av_perm.proofs.Pointwise.{same_length, beside, before, flipped, chained}
+use Rattle.av_perm.proofs.ListLaws.{get_In}
 use Rattle.av_build.proofs.TermsStand.{Numbered, Stands}
-use Rattle.av_build.proofs.Growing.{Canonical, canonical, NameAt, get_In}
+use Rattle.av_build.proofs.Growing.{Canonical, canonical, NameAt}
 use Rattle.av_build.proofs.DraftMeanings.{BlocksMean, HasShape, IsRootDraft, root_draft_is, names_count, draft_root, node_sound, point_sound, some_shape}
 use Rattle.av_build.proofs.DraftsApart.{apart_same, drafts_apart}
 use Rattle.av_sys.proofs.Subtrees.{IsEquation, equation_term}

@@ -6,6 +6,7 @@ use Rattle.std.proofs.lemmas.List.{take_all, map-append}
 use Rattle.std.proofs.lemmas.List.Sums.{prefix_len-le-length}
 use Rattle.std.proofs.lemmas.Option.{slice_get_within, get_or_from_slice_get}
 use Rattle.std.proofs.Math.Seq.{drop-cons, take-suc}
+use Rattle.av_perm.proofs.ListLaws.{get_In}
 use Rattle.av_sys.specs.declared.names.Name.{Name}
 use Rattle.av_sys.specs.declared.terms.Term.{Term}
 use Rattle.av_sys.specs.declared.terms.Equation.{Equation}
@@ -13,7 +14,6 @@ use Rattle.av_sys.specs.declared.terms.System.{System}
 use Rattle.av_sys.specs.Terms.{terms_of, children_of, IsWellFormed}
 use Rattle.av_build.specs.Alive.{has_marked, alive_marks}
 use Rattle.av_build.specs.Lean.{marked_terms, children_in, used, with_numbers, found_after, kept, name_of, lean_equation, renumbered, live_terms}
-use Rattle.av_build.proofs.Growing.{get_In}
 use Rattle.av_build.proofs.FoundNumbers.{numbers_append}
 use Rattle.av_build.proofs.KeptEquations.{found_first, found_next, found_grows, found_within, found_few, found_kept}
 use Rattle.av_build.proofs.LeanForm.{lean_form_law}

@@ -1,10 +1,10 @@
 -- The values of the trees of an equation of a size, made of its terms and the values of the trees of their children.
 use Rattle.std.proofs.Common.{◌≡◌, ℕ, suc, ◌+◌, ◌==◌, arith, Bool, true, false, cond, List, [], ◌∷◌, ◌++◌, map, length, flat_map, slice_get, inl, inr, Option, Some, None, refl, sym, ◌∙◌, ap, ap₂}
-use Rattle.std.proofs.lemmas.List.{map-append}
 use Rattle.std.proofs.lemmas.List.Folds.{flat_map-map}
 use Rattle.av_perm.specs.Lists.{counting, before_each, products, size_lists}
 use Rattle.av_perm.specs.Inflate.{inflate}
 use Rattle.av_perm.proofs.Membership.{Each}
+use Rattle.av_perm.proofs.ListLaws.{flat_map_each, map_flat_map}
 use Rattle.av_sys.specs.declared.terms.Term.{Term}
 use Rattle.av_sys.specs.declared.terms.Term.TheVariants.{Point, Node}
 use Rattle.av_sys.specs.declared.terms.System.{System}
@@ -28,20 +28,10 @@ term_values below n (Node root children) = flat_map (λ ns. map (inflate root) (
 abbrev pub values_up_to : System → ℕ → ℕ → ℕ → List (List ℕ)
 values_up_to S d u n = map (value S u) (trees_up_to S d u n)
 
--- lists made of each element in equal ways
-pub flat_same : {A B : Type 0} (f g : A → List B) (xs : List A) → Each (λ x. f x ≡ g x) xs → flat_map f xs ≡ flat_map g xs
-flat_same f g [] h = refl
-flat_same {B = B} f g (x ∷ xs) h = ap₂ (λ (ys zs : List B). ys ++ zs) (h x (inl refl)) (flat_same f g xs (λ y i. h y (inr i)))
-
 -- nothing is made of elements none of which makes something
 pub flat_nil : {A B : Type 0} (f : A → List B) (xs : List A) → Each (λ x. f x ≡ []) xs → flat_map f xs ≡ []
 flat_nil f [] h = refl
 flat_nil {B = B} f (x ∷ xs) h = ap₂ (λ (ys zs : List B). ys ++ zs) (h x (inl refl)) (flat_nil f xs (λ y i. h y (inr i)))
-
--- the images of what each element makes
-map_flat : {A B C : Type 0} (h : B → C) (g : A → List B) (xs : List A) → map h (flat_map g xs) ≡ flat_map (λ x. map h (g x)) xs
-map_flat h g [] = refl
-map_flat h g (x ∷ xs) = map-append h (g x) (flat_map g xs) ∙ ap (λ l. map h (g x) ++ l) (map_flat h g xs)
 
 -- the elements of a list by their places
 by_places : {A B : Type 0} (f : Option A → List B) (xs : List A) (lo : ℕ) (ys : List A) → ((t : ℕ) → slice_get ys (lo + t) ≡ slice_get xs t)
@@ -64,8 +54,8 @@ module _ (S : System) where
   lists_values below [] ns = refl
   lists_values below (c ∷ cs) [] = refl
   lists_values below (c ∷ cs) (n ∷ ns) =
-      map_flat (values S (c ∷ cs)) (λ T. map (more T.term T.subtrees) rest) (below c n)
-      ∙ flat_same (λ T. map (values S (c ∷ cs)) (map (more T.term T.subtrees) rest)) (λ T. before_each (value S c T) others) (below c n)
+      map_flat_map (values S (c ∷ cs)) (λ T. map (more T.term T.subtrees) rest) (below c n)
+      ∙ flat_map_each (λ T. map (values S (c ∷ cs)) (map (more T.term T.subtrees) rest)) (λ T. before_each (value S c T) others) (below c n)
       (λ T i. before_values c cs T rest ∙ ap (before_each (value S c T)) (lists_values below cs ns))
       ∙ sym (flat_map-map (λ v. before_each v others) (value S c) (below c n))
     where
@@ -84,8 +74,8 @@ module _ (S : System) where
       by true = ap (λ w. w ∷ []) (term_value S u t Point none e)
       by false = refl
   values_of_term u n t below (Node root cs) e =
-      map_flat (value S u) (λ ns. map made (tree_lists (at_sizes below cs ns))) (size_lists (length cs) n)
-      ∙ flat_same (λ ns. map (value S u) (map made (tree_lists (at_sizes below cs ns))))
+      map_flat_map (value S u) (λ ns. map made (tree_lists (at_sizes below cs ns))) (size_lists (length cs) n)
+      ∙ flat_map_each (λ ns. map (value S u) (map made (tree_lists (at_sizes below cs ns))))
       (λ ns. map (inflate root) (products (values_at (λ c m. map (value S c) (below c m)) cs ns))) (size_lists (length cs) n)
       (λ ns i. inflated (tree_lists (at_sizes below cs ns)) ∙ ap (map (inflate root)) (lists_values below cs ns))
     where
@@ -100,8 +90,8 @@ module _ (S : System) where
   pub values_step : (d u n : ℕ) → values_up_to S (suc d) u n ≡ flat_map (term_values (values_up_to S d) n) (terms_at S u)
   unfolding trees_up_to
   values_step d u n =
-      map_flat (value S u) (λ t. trees_of_term (trees_up_to S d) n t (term_at S u t)) (counting 0 (length (terms_at S u)))
-      ∙ flat_same (λ t. map (value S u) (trees_of_term (trees_up_to S d) n t (term_at S u t))) (λ t. some_values (term_at S u t)) (counting 0 (length (terms_at S u)))
+      map_flat_map (value S u) (λ t. trees_of_term (trees_up_to S d) n t (term_at S u t)) (counting 0 (length (terms_at S u)))
+      ∙ flat_map_each (λ t. map (value S u) (trees_of_term (trees_up_to S d) n t (term_at S u t))) (λ t. some_values (term_at S u t)) (counting 0 (length (terms_at S u)))
       (λ t i. at_term t (term_at S u t) refl)
       ∙ by_places some_values (terms_at S u) 0 (terms_at S u) (λ t. ap (slice_get (terms_at S u)) (omega arith))
     where

@@ -3,6 +3,7 @@
 use Rattle.std.proofs.Common.{◌≡◌, ℕ, List, length, slice_get, Some, refl, sym, ◌∙◌, ap, subst, arith}
 use Rattle.std.proofs.lemmas.List.{length-map}
 use Rattle.std.proofs.lemmas.Option.{slice_get_within}
+use Rattle.av_perm.proofs.ListLaws.{get_In, get_within, once_place}
 use Rattle.av_sys.specs.declared.terms.System.{System}
 use Rattle.av_sys.specs.Terms.{IsWellFormed}
 use Rattle.av_sys.specs.Trees.{Tree, IsTree, size, value}
@@ -10,8 +11,8 @@ use Rattle.av_sys.specs.TreeLists.{trees, members_at}
 use Rattle.av_sys.specs.Laws.{IsTreeOfSize}
 use Rattle.av_sys.proofs.TreesOnce.{trees_law}
 use Rattle.av_build.specs.LeanLaws.{AreTwins, HasSameTrees}
-use Rattle.av_build.proofs.Growing.{get_In, In_get}
-use Rattle.av_build.proofs.ListPlaces.{get_within, get_map, once_place}
+use Rattle.av_build.proofs.Growing.{In_get}
+use Rattle.av_build.proofs.ListPlaces.{get_map}
 
 -- the trees of a list have values, and no more
 length_members : (S : System) (u n : ℕ) → length (members_at S u n) ≡ length (trees S u n)

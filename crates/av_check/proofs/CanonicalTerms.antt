@@ -21,10 +21,11 @@ use Rattle.av_build.specs.Drafts.{Draft, point, node, name_of, child_names, has_
 use Rattle.av_build.specs.Canonical.{same_sign}
 use Rattle.av_build.proofs.NameNumbers.{sign_refl}
 use Rattle.av_perm.proofs.Pointwise.{beside}
+use Rattle.av_perm.proofs.ListLaws.{get_In}
 use Rattle.av_build.proofs.RootedTerms.{Rooted, rooted, drafts_of, drafts_are, node_parts, root_draft_In, point_is, DraftCases, draft_cases}
 use Rattle.av_build.proofs.DraftsApart.{Distinct, rooted_distinct}
 use Rattle.av_build.proofs.TermsStand.{Numbered, Stands, AllStand}
-use Rattle.av_build.proofs.Growing.{NameAt, get_In, In_get}
+use Rattle.av_build.proofs.Growing.{NameAt, In_get}
 use Rattle.av_walk.specs.Leaves.{name_of_equation, names_at, names_of_root}
 use Rattle.av_check.specs.Verdicts.{count_points, points_due, first_sign, are_signed, roots_for, is_wrong_node}
 use Rattle.av_check.proofs.ListedRoots.{same_false, rooted_at, listed_rooted, rooted_listed, rooted_sign}

@@ -5,6 +5,7 @@ use Rattle.std.proofs.lemmas.Bool.{cases_Bool, and_parts}
 use Rattle.av_perm.specs.Members.{In}
 use Rattle.av_perm.specs.Relations.{IsWord, block}
 use Rattle.av_perm.proofs.Tests.{any_from}
+use Rattle.av_perm.proofs.ListLaws.{get_within}
 use Rattle.av_sys.specs.declared.names.Sign.{Sign}
 use Rattle.av_sys.specs.declared.names.Sign.TheVariants.{C}
 use Rattle.av_sys.specs.declared.names.Constraint.{Constraint}
@@ -19,7 +20,6 @@ use Rattle.av_build.specs.Drafts.{name_of, child_names}
 use Rattle.av_build.specs.Canonical.{same_sign}
 use Rattle.av_build.specs.Laws.{IsNameOver}
 use Rattle.av_build.proofs.NameNumbers.{sign_equal}
-use Rattle.av_build.proofs.ListPlaces.{get_within}
 use Rattle.av_build.proofs.TermLaws.{MeanAt}
 use Rattle.av_walk.specs.Leaves.{name_of_equation, names_at}
 use Rattle.av_check.specs.declared.verdict.Flaw.TheVariants.{Lost, Large}

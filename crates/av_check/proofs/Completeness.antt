@@ -5,6 +5,7 @@ use Rattle.std.proofs.lemmas.List.{append-nil}
 use Rattle.av_perm.specs.Members.{In, Once}
 use Rattle.av_perm.specs.Relations.{IsWord, IsSimple}
 use Rattle.av_perm.proofs.Membership.{Each}
+use Rattle.av_perm.proofs.ListLaws.{get_In}
 use Rattle.av_sys.specs.declared.names.Sign.{Sign}
 use Rattle.av_sys.specs.declared.names.Name.{Name}
 use Rattle.av_sys.specs.declared.terms.Term.{Term}
@@ -19,7 +20,7 @@ use Rattle.av_split.proofs.WordSplit.{Apt, demands_apt}
 use Rattle.av_build.specs.Drafts.{child_names}
 use Rattle.av_build.specs.Canonical.{same_name, grow_from, grown_size, as_system}
 use Rattle.av_build.proofs.NameNumbers.{name_refl}
-use Rattle.av_build.proofs.Growing.{Canonical, canonical, get_In, grow_each, equation_at}
+use Rattle.av_build.proofs.Growing.{Canonical, canonical, grow_each, equation_at}
 use Rattle.av_walk.specs.Walk.{Literal, good, bare, Leaf, walk, walk_questions}
 use Rattle.av_walk.specs.Leaves.{literals, leaves}
 use Rattle.av_check.specs.declared.fault.Fault.{Fault}

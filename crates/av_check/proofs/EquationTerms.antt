@@ -16,6 +16,7 @@ use Rattle.av_perm.proofs.Inflations.{length_inflate, lengths_least}
 use Rattle.av_perm.proofs.InflatedPatterns.{root_contained}
 use Rattle.av_perm.proofs.OneDecomposition.{one_decomposition}
 use Rattle.av_perm.proofs.SomeDecomposition.{some_decomposition}
+use Rattle.av_perm.proofs.ListLaws.{get_In}
 use Rattle.av_decomp.proofs.Decompositions.{word_of_one, root_two}
 use Rattle.av_sys.specs.declared.names.Name.{Name}
 use Rattle.av_sys.specs.declared.terms.Term.{Term}
@@ -32,7 +33,7 @@ use Rattle.av_split.proofs.GenericSplit.{Apart}
 use Rattle.av_build.specs.Drafts.{point, point_drafts, has_point, child_names}
 use Rattle.av_build.specs.Canonical.{first_name}
 use Rattle.av_build.specs.Laws.{IsNameOver}
-use Rattle.av_build.proofs.Growing.{get_In, In_get}
+use Rattle.av_build.proofs.Growing.{In_get}
 use Rattle.av_build.proofs.NameEquations.{decomposed_word, root_is_word, root_splits, equation_law}
 use Rattle.av_build.proofs.DraftMeanings.{point_listed, point_sound, point_complete}
 use Rattle.av_build.proofs.DraftsApart.{apart_same}

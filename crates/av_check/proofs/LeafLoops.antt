@@ -7,6 +7,7 @@ use Rattle.av_perm.specs.Members.{In}
 use Rattle.av_perm.specs.Relations.{IsWord}
 use Rattle.av_perm.proofs.Membership.{Each, In_map, all_each}
 use Rattle.av_perm.proofs.WordTests.{word_from}
+use Rattle.av_perm.proofs.ListLaws.{get_In}
 use Rattle.av_sys.specs.declared.names.Name.{Name}
 use Rattle.av_sys.specs.declared.terms.Term.TheVariants.{Node}
 use Rattle.av_sys.specs.declared.terms.Equation.{Equation}
@@ -18,7 +19,6 @@ use Rattle.av_split.proofs.Cutting.{perms_words}
 use Rattle.av_build.specs.declared.limits.TheConstants.{MAX_SIZE}
 use Rattle.av_build.specs.Drafts.{child_names}
 use Rattle.av_build.specs.Laws.{Covers}
-use Rattle.av_build.proofs.Growing.{get_In}
 use Rattle.av_walk.specs.declared.leaves.CellEnd.{CellEnd}
 use Rattle.av_walk.specs.declared.leaves.CellEnd.TheVariants as cells
 use Rattle.av_walk.specs.Walk.{bare, Leaf}

@@ -21,9 +21,10 @@ use Rattle.av_build.specs.Alive.{has_marked, alive_marks}
 use Rattle.av_build.specs.Lean.{name_of, live_terms, place_of, renumbered, lean_equation, lean_over, kept, lean, IsNumbering}
 use Rattle.av_build.proofs.NameNumbers.{number_at}
 use Rattle.av_perm.proofs.Pointwise.{beside}
-use Rattle.av_build.proofs.ListPlaces.{get_within, get_map, map_get, once_place}
+use Rattle.av_perm.proofs.ListLaws.{get_In, get_within, once_place}
+use Rattle.av_build.proofs.ListPlaces.{get_map, map_get}
 use Rattle.av_build.proofs.TermsStand.{Numbered, Stands}
-use Rattle.av_build.proofs.Growing.{Canonical, canonical, NameAt, get_In, In_get, equation_at}
+use Rattle.av_build.proofs.Growing.{Canonical, canonical, NameAt, In_get, equation_at}
 use Rattle.av_build.proofs.FoundNumbers.{place_at}
 use Rattle.av_build.proofs.KeptEquations.{child_used, kept_numbering, numbering_first, numbering_within, numbering_closed}
 use Rattle.av_walk.specs.Walk.{Leaf}

@@ -1,6 +1,7 @@
 -- Where the verdict is yes the system is exact, and each equation generates what its name describes.
 use Rattle.std.proofs.Common.{◌≡◌, ℕ, zero, suc, ◌+◌, List, [], ◌∷◌, length, slice_get, Bool, true, false, cond, nat_eq, eqb-true, Option, Some, None, refl, sym, ap, ◌∙◌, subst, arith, true≢false}
 use Rattle.std.proofs.lemmas.Bool.{and_parts}
+use Rattle.av_perm.proofs.ListLaws.{get_In, get_within}
 use Rattle.av_sys.specs.declared.names.Name.{Name}
 use Rattle.av_sys.specs.declared.terms.Term.{Term}
 use Rattle.av_sys.specs.declared.terms.Equation.{Equation}
@@ -10,8 +11,6 @@ use Rattle.av_sys.specs.Trees.{Tree, IsTree}
 use Rattle.av_sys.specs.Exact.{MeansOf, MeansAt, Named}
 use Rattle.av_sys.proofs.Subtrees.{tree_equation, tree_term}
 use Rattle.av_build.specs.Canonical.{same_name, is_void}
-use Rattle.av_build.proofs.Growing.{get_In}
-use Rattle.av_build.proofs.ListPlaces.{get_within}
 use Rattle.av_build.proofs.NameNumbers.{name_equal}
 use Rattle.av_build.proofs.BareSystems.{void_none}
 use Rattle.av_build.proofs.TermLaws.{right_named}

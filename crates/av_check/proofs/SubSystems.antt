@@ -18,9 +18,10 @@ use Rattle.av_build.specs.Canonical.{Grown, grow_from, grown_size, as_system}
 use Rattle.av_build.specs.Alive.{alive}
 use Rattle.av_build.specs.Laws.{IsNameOver}
 use Rattle.av_perm.proofs.Pointwise.{beside, before}
-use Rattle.av_build.proofs.ListPlaces.{get_within, part_sum}
+use Rattle.av_perm.proofs.ListLaws.{get_In, get_within}
+use Rattle.av_build.proofs.ListPlaces.{part_sum}
 use Rattle.av_build.proofs.TermsStand.{Numbered, Stands, FoundAt}
-use Rattle.av_build.proofs.Growing.{Canonical, canonical, NameAt, get_In, In_get, grow_inv, grow_each}
+use Rattle.av_build.proofs.Growing.{Canonical, canonical, NameAt, In_get, grow_inv, grow_each}
 use Rattle.av_build.proofs.GrownSizes.{small_through}
 use Rattle.av_build.proofs.AliveMarks.{tree_alive, alive_tree}
 use Rattle.av_check.specs.Verdicts.{is_dead}

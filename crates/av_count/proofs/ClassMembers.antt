@@ -1,5 +1,5 @@
 -- The words of the trees of an exact system are those of the class, each once.
-use Rattle.std.proofs.Common.{◌≡◌, ℕ, zero, suc, ◌<◌, ◌≤◌, inl, inr, List, [], ◌∷◌, map, length, get_or, refl, sym, ap, ◌∙◌, subst, arith, Some, None, slice_get}
+use Rattle.std.proofs.Common.{◌≡◌, ℕ, ◌<◌, ◌≤◌, inl, inr, List, [], ◌∷◌, map, length, get_or, refl, sym, ap, ◌∙◌, subst, arith, Some}
 use Rattle.std.proofs.lemmas.List.{length-map}
 use Rattle.std.proofs.lemmas.Option.{slice_get-get_or}
 use Rattle.av_perm.specs.Members.{Once, IsListOf}
@@ -8,6 +8,7 @@ use Rattle.av_perm.specs.Relations.{InClassWithAt}
 use Rattle.av_perm.proofs.Membership.{In, In_at, at_In, In_map, map_In}
 use Rattle.av_perm.proofs.Pigeons.{pigeons_by}
 use Rattle.av_perm.proofs.WordLists.{class_with_list}
+use Rattle.av_perm.proofs.ListLaws.{once_place}
 use Rattle.av_sys.specs.declared.terms.System.{System}
 use Rattle.av_sys.specs.Terms.{IsWellFormed}
 use Rattle.av_sys.specs.Trees.{size, value}
@@ -16,15 +17,6 @@ use Rattle.av_sys.specs.Exact.{Exact}
 use Rattle.av_sys.specs.Laws.{IsTreeOfSize}
 use Rattle.av_sys.proofs.TreesOnce.{trees_law}
 use Rattle.av_count.specs.Laws.{MembersLaw}
-use Rattle.av_count.proofs.NodeForms.{got_In}
-
--- an element of a list without repeats stands at one place
-pub once_place : {A : Type 0} (xs : List A) (i j : ℕ) (x : A) → Once xs → slice_get xs i ≡ Some x → slice_get xs j ≡ Some x → i ≡ j
-once_place [] i j x o a b = absurd (let f : None ≡ Some x = a in cc)
-once_place (y ∷ ys) zero zero x o a b = refl
-once_place (y ∷ ys) zero (suc j) x o a b = absurd (o.0 (let e : x ≡ y = cc in subst (λ z. In z ys) e (got_In ys j x b)))
-once_place (y ∷ ys) (suc i) zero x o a b = absurd (o.0 (let e : x ≡ y = cc in subst (λ z. In z ys) e (got_In ys i x a)))
-once_place (y ∷ ys) (suc i) (suc j) x o a b = ap suc (once_place ys i j x o.1 a b)
 
 -- a list without repeats whose elements are all in another is no longer
 once_shorter : (xs ys : List (List ℕ)) → Once xs → ((x : List ℕ) → In x xs → In x ys) → length xs ≤ length ys

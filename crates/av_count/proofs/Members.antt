@@ -3,6 +3,7 @@ use Rattle.std.proofs.Common.{◌≡◌, ℕ, zero, suc, ◌+◌, ◌*◌, ◌-�
 use Rattle.std.proofs.lemmas.List.{length-map}
 use Rattle.av_perm.specs.Lists.{counting, before_each, size_lists, products}
 use Rattle.av_perm.specs.Inflate.{inflate}
+use Rattle.av_perm.proofs.ListLaws.{map_flat_map}
 use Rattle.av_sys.specs.declared.terms.Term.{Term}
 use Rattle.av_sys.specs.declared.terms.Term.TheVariants.{Point, Node}
 use Rattle.av_sys.specs.declared.terms.System.{System}
@@ -12,7 +13,7 @@ use Rattle.av_sys.specs.TreeLists.{tree_lists, at_sizes, trees_of_term, trees_up
 use Rattle.av_sys.proofs.TreesStep.{trees_step}
 use Rattle.av_count.specs.Choices.{lists_at, choice_lists, ways, ahead, sum_from}
 use Rattle.av_count.specs.Members.{subtree_lists, term_words, term_ways}
-use Rattle.av_count.proofs.Choices.{flat_map_same, map_flat_map, map_same, length_choices, lengths}
+use Rattle.av_count.proofs.Choices.{flat_map_same, map_same, length_choices, lengths}
 
 -- a map over a map
 pub map_map : {X Y Z : Type 0} (g : Y → Z) (f : X → Y) (xs : List X) → map g (map f xs) ≡ map (λ x. g (f x)) xs

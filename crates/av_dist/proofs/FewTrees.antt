@@ -6,6 +6,7 @@ use Rattle.std.proofs.lemmas.Option.{slice_get-get_or}
 use Rattle.av_perm.specs.Relations.{at}
 use Rattle.av_perm.proofs.Membership.{In_at}
 use Rattle.av_perm.proofs.Pigeons.{pigeons}
+use Rattle.av_perm.proofs.ListLaws.{once_place}
 use Rattle.av_sys.specs.declared.terms.System.{System}
 use Rattle.av_sys.specs.Terms.{IsWellFormed}
 use Rattle.av_sys.specs.Trees.{Tree, none, value}
@@ -13,7 +14,6 @@ use Rattle.av_sys.specs.TreeLists.{trees, count_at}
 use Rattle.av_sys.specs.Exact.{NamedUpTo}
 use Rattle.av_sys.specs.Laws.{IsTreeOfSize}
 use Rattle.av_sys.proofs.TreesOnce.{trees_law}
-use Rattle.av_count.proofs.ClassMembers.{once_place}
 use Rattle.av_tree.proofs.TreeWords.{tree_word}
 use Rattle.av_text.specs.declared.limits.TheConstants.{MAX_DISTRIBUTION_LENGTH}
 use Rattle.av_dist.specs.Tables.{most_words, HasFewTrees}

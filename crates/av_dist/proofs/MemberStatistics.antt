@@ -7,6 +7,7 @@ use Rattle.av_perm.specs.Members.{In}
 use Rattle.av_perm.specs.Stat.{inversions, descents}
 use Rattle.av_perm.specs.Inflate.{inflate}
 use Rattle.av_perm.proofs.Membership.{In_map, at_In}
+use Rattle.av_perm.proofs.ListLaws.{map_flat_map}
 use Rattle.av_sys.specs.declared.terms.Term.{Term}
 use Rattle.av_sys.specs.declared.terms.Term.TheVariants.{Point, Node}
 use Rattle.av_sys.specs.declared.terms.System.{System}
@@ -16,7 +17,7 @@ use Rattle.av_text.specs.declared.queries.DistKind.{DistKind}
 use Rattle.av_text.specs.declared.queries.DistKind.TheVariants.{Inv, Des}
 use Rattle.av_count.specs.Members.{term_words}
 use Rattle.av_count.specs.Choices.{choice_lists}
-use Rattle.av_count.proofs.Choices.{choices_grown, map_flat_map, flat_map_same}
+use Rattle.av_count.proofs.Choices.{choices_grown, flat_map_same}
 use Rattle.av_count.proofs.Members.{map_map, members_by_terms, count_members}
 use Rattle.av_count.proofs.NodeForms.{node_form}
 use Rattle.av_bars.specs.Histograms.{how_many}

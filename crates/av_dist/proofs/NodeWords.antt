@@ -6,10 +6,11 @@ use Rattle.av_perm.specs.Lists.{counting, size_lists}
 use Rattle.av_perm.specs.Members.{In}
 use Rattle.av_perm.specs.Relations.{IsWord, AreBlocks, inflate, block}
 use Rattle.av_perm.proofs.Membership.{In_map, In_flat_map}
+use Rattle.av_perm.proofs.ListLaws.{map_flat_map}
 use Rattle.av_text.specs.declared.queries.DistKind.{DistKind}
 use Rattle.av_text.specs.declared.queries.DistKind.TheVariants.{Inv, Des}
 use Rattle.av_count.specs.Choices.{grown, pairs, snoc}
-use Rattle.av_count.proofs.Choices.{grown_end, grown_step, map_flat_map, flat_map_same}
+use Rattle.av_count.proofs.Choices.{grown_end, grown_step, flat_map_same}
 use Rattle.av_count.proofs.Members.{map_map}
 use Rattle.av_tree.proofs.TreeWords.{IsWordOfLength}
 use Rattle.av_dist.specs.Kinds.{statistic_by}

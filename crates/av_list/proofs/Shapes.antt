@@ -8,6 +8,7 @@ use Rattle.std.proofs.lemmas.Grind.{flat_map-append}
 use Rattle.av_perm.specs.Lists.{counting, before_each, size_lists, products}
 use Rattle.av_perm.proofs.Membership.{Each, In_map, In_flat_map, In_before}
 use Rattle.av_perm.proofs.GeneratedLists.{IsSizes, sizes_from}
+use Rattle.av_perm.proofs.ListLaws.{map_flat_map, flat_map_each}
 use Rattle.av_sys.specs.declared.terms.Term.{Term}
 use Rattle.av_sys.specs.declared.terms.Term.TheVariants.{Point, Node}
 use Rattle.av_sys.specs.declared.terms.System.{System}
@@ -18,7 +19,7 @@ use Rattle.av_sys.proofs.TreeSizes.{sizes_of, first_valid, others_valid, Branche
 use Rattle.av_sys.proofs.TreesStep.{trees_step}
 use Rattle.av_sys.proofs.TreesOnce.{trees_law}
 use Rattle.av_count.specs.Choices.{lists_at, pairs}
-use Rattle.av_count.proofs.Choices.{flat_map_same, map_flat_map, map_before, map_same, flat_map_flat_map, length_pairs, append_nil}
+use Rattle.av_count.proofs.Choices.{flat_map_same, map_before, map_same, flat_map_flat_map, length_pairs, append_nil}
 use Rattle.av_count.proofs.Members.{map_map, flat_map_map, before_map}
 use Rattle.av_list.specs.declared.vertex.Vertex.{Vertex}
 use Rattle.av_list.specs.declared.vertex.Due.{Due}
@@ -118,11 +119,6 @@ lists_preorders S (u ∷ us) (n ∷ ns) =
     ∙ ap (λ z. map (λ r. preorder S u T ∷ r) z) (lists_preorders S us ns)
     ∙ sym (before_map (preorder S u T) (products (lists_at (listed S) us ns))))
     ∙ sym (flat_map_map (λ x. before_each x (products (lists_at (listed S) us ns))) (preorder S u) (trees S u n))
-
--- lists made of each element in equal ways
-flat_map_each : {X Y : Type 0} (f g : X → List Y) (xs : List X) → Each (λ x. f x ≡ g x) xs → flat_map f xs ≡ flat_map g xs
-flat_map_each f g [] h = refl
-flat_map_each f g (x ∷ xs) h = ap₂ (λ a b. a ++ b) (h x (inl refl)) (flat_map_each f g xs (λ y i. h y (inr i)))
 
 -- so the trees that begin with a term
 term_listed : (S : System) → IsWellFormed S → (u n t : ℕ) (o : Option Term) → term_at S u t ≡ o → Branches o

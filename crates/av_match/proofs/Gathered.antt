@@ -18,10 +18,11 @@ use Rattle.av_perm.specs.Contain.{contains}
 use Rattle.av_perm.specs.Relations.{IsWord}
 use Rattle.av_perm.specs.Class.{insert_by, insert_word, in_shortlex}
 use Rattle.av_perm.proofs.Containment.{contains_equal}
-use Rattle.av_perm.proofs.Membership.{In_at, at_In}
+use Rattle.av_perm.proofs.Membership.{at_In}
 use Rattle.av_perm.proofs.Occurrences.{contains_from}
 use Rattle.av_perm.proofs.PermWords.{perm_word}
 use Rattle.av_perm.proofs.Tests.{same_refl}
+use Rattle.av_perm.proofs.ListLaws.{get_In}
 
 -- the word contains no other different word of the list
 abbrev pub is_minimal_of : List (List ℕ) → List ℕ → Bool
@@ -90,10 +91,6 @@ earlier ws i w h e =
     let n : suc (i - 1) ≡ i = omega arith in
     drop-cons ws (i - 1) [] lt ∙ rw (get_or_from_slice_get ws (i - 1) w [] e, n) refl
 
--- the word there is in the list
-there : (ws : List (List ℕ)) (i : ℕ) (w : List ℕ) → slice_get ws i ≡ Some w → In w ws
-there ws i w e = subst (λ v. In v ws) (get_or_from_slice_get ws i w [] e) (In_at ws i [] (slice_get_within ws i w e))
-
 -- one more word that passes a test is kept
 kept_more : (test : List ℕ → Bool) (ws old new : List (List ℕ)) (i : ℕ) (w : List ℕ) → 0 < i → slice_get ws (i - 1) ≡ Some w → test w ≡ true
     → old ≡ in_shortlex (filter test (drop i ws)) → new ≡ insert_key shortlex old w → new ≡ in_shortlex (filter test (drop (i - 1) ws))
@@ -108,13 +105,13 @@ kept_same test ws old i w h e fails k = k ∙ rw (earlier ws i w h e, fails) ref
 pub kept_one : (ws old new : List (List ℕ)) (i : ℕ) (w : List ℕ) → ArePerms ws → 0 < i → slice_get ws (i - 1) ≡ Some w → has_no_shorter ws w ≡ true
     → old ≡ in_shortlex (filter (is_minimal_of ws) (drop i ws)) → new ≡ insert_key shortlex old w → new ≡ in_shortlex (filter (is_minimal_of ws) (drop (i - 1) ws))
 kept_one ws old new i w g h e alone k n =
-    kept_more (is_minimal_of ws) ws old new i w h e (sym (minimal_shorter ws w g (there ws (i - 1) w e)) ∙ alone) k n
+    kept_more (is_minimal_of ws) ws old new i w h e (sym (minimal_shorter ws w g (get_In ws (i - 1) w e)) ∙ alone) k n
 
 -- none is kept
 pub kept_none : (ws old : List (List ℕ)) (i : ℕ) (w : List ℕ) → ArePerms ws → 0 < i → slice_get ws (i - 1) ≡ Some w → has_no_shorter ws w ≡ false
     → old ≡ in_shortlex (filter (is_minimal_of ws) (drop i ws)) → old ≡ in_shortlex (filter (is_minimal_of ws) (drop (i - 1) ws))
 kept_none ws old i w g h e not_alone k =
-    kept_same (is_minimal_of ws) ws old i w h e (sym (minimal_shorter ws w g (there ws (i - 1) w e)) ∙ not_alone) k
+    kept_same (is_minimal_of ws) ws old i w h e (sym (minimal_shorter ws w g (get_In ws (i - 1) w e)) ∙ not_alone) k
 
 -- no other different word of the list contains the word
 abbrev pub is_maximal_of : List (List ℕ) → List ℕ → Bool
@@ -132,13 +129,13 @@ maximal_longer ws w g i = all_same _ _ ws (λ v j. longer_test w v (perm_in ws w
 pub kept_maximal : (ws old new : List (List ℕ)) (i : ℕ) (w : List ℕ) → ArePerms ws → 0 < i → slice_get ws (i - 1) ≡ Some w → has_no_longer ws w ≡ true
     → old ≡ in_shortlex (filter (is_maximal_of ws) (drop i ws)) → new ≡ insert_key shortlex old w → new ≡ in_shortlex (filter (is_maximal_of ws) (drop (i - 1) ws))
 kept_maximal ws old new i w g h e alone k n =
-    kept_more (is_maximal_of ws) ws old new i w h e (sym (maximal_longer ws w g (there ws (i - 1) w e)) ∙ alone) k n
+    kept_more (is_maximal_of ws) ws old new i w h e (sym (maximal_longer ws w g (get_In ws (i - 1) w e)) ∙ alone) k n
 
 -- none is kept
 pub kept_no_maximal : (ws old : List (List ℕ)) (i : ℕ) (w : List ℕ) → ArePerms ws → 0 < i → slice_get ws (i - 1) ≡ Some w → has_no_longer ws w ≡ false
     → old ≡ in_shortlex (filter (is_maximal_of ws) (drop i ws)) → old ≡ in_shortlex (filter (is_maximal_of ws) (drop (i - 1) ws))
 kept_no_maximal ws old i w g h e not_alone k =
-    kept_same (is_maximal_of ws) ws old i w h e (sym (maximal_longer ws w g (there ws (i - 1) w e)) ∙ not_alone) k
+    kept_same (is_maximal_of ws) ws old i w h e (sym (maximal_longer ws w g (get_In ws (i - 1) w e)) ∙ not_alone) k
 
 -- what holds at `Ok`
 pub at_ok : {T E : Type 0} (P : Type 0) (r : Result T E) → is_ok r ≡ true → OnOk r P → P

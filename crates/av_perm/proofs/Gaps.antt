@@ -1,5 +1,5 @@
 -- The simple words of a class below a length, and the gap of a class.
-use Rattle.std.proofs.Common.{◌≡◌, ℕ, suc, ◌-◌, ◌<◌, ◌≤◌, ◌↔◌, inl, inr, List, [], ◌∷◌, length, Bool, true, ◌&&◌, refl, sym, ◌∙◌, arith, lt-ltb, eq-eqb, le-ltb}
+use Rattle.std.proofs.Common.{◌≡◌, ℕ, suc, ◌-◌, ◌<◌, ◌≤◌, ◌↔◌, inl, inr, List, [], length, Bool, true, ◌&&◌, refl, sym, ◌∙◌, arith, lt-ltb, eq-eqb, le-ltb}
 use Rattle.std.proofs.lemmas.Bool.{cases_lt, cases_Bool, and_parts, and_from}
 use Rattle.std.specs.Cmp.Lexicographic.{slice_cmp}
 use Rattle.std.specs.Ordering.{nat_cmp}
@@ -14,6 +14,7 @@ use Rattle.av_perm.proofs.Membership.{In_flat_map, flat_map_In, In_counting, cou
 use Rattle.av_perm.proofs.Tests.{any_from, any_to, find_least, least_find, found_any}
 use Rattle.av_perm.proofs.Ascending.{once_from_ascending, ascending_also, ascending_flat_map, ascending_counting, less_nat_cmp}
 use Rattle.av_perm.proofs.SimpleWords.{simples_are, simples_ascending}
+use Rattle.av_perm.proofs.ListLaws.{nil_none, none_nil}
 
 -- shortlex order of words of one length, and of two
 shortlex_same : (v w : List ℕ) → length v ≡ length w → slice_cmp nat_cmp v w ≡ Less → shortlex v w ≡ Less
@@ -59,16 +60,6 @@ below_list basis g = record {
   members = below_are basis g;
   once = once_from_ascending shortlex shortlex_total (simples_below basis g) (below_ascending basis g);
 }
-
--- a list without elements
-nil_none : {A : Type 0} (xs : List A) → is_nil xs ≡ true → (x : A) → In x xs → ⊥
-nil_none [] e x i = i
-nil_none (y ∷ xs) e x i = cc
-
--- a list without elements passes
-none_nil : {A : Type 0} (xs : List A) → ((x : A) → In x xs → ⊥) → is_nil xs ≡ true
-none_nil [] h = refl
-none_nil (x ∷ xs) h = absurd (h x (inl refl))
 
 -- the test of a gap
 abbrev opens : List (List ℕ) → ℕ → Bool

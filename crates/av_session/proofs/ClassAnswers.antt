@@ -10,13 +10,13 @@ use Rattle.av_perm.specs.Relations.{IsWord, Contains, InClass, InClassWith, InCl
 use Rattle.av_perm.proofs.Membership.{Each, at_In}
 use Rattle.av_perm.proofs.Occurrences.{contains_from, contains_to, occurrence_found}
 use Rattle.av_perm.proofs.Tests.{not_from}
+use Rattle.av_perm.proofs.ListLaws.{once_place, get_In}
 use Rattle.av_match.proofs.Completed.{contains_first}
 use Rattle.av_sys.specs.Terms.{IsWellFormed}
 use Rattle.av_sys.specs.Trees.{value}
 use Rattle.av_sys.specs.TreeLists.{trees, members, members_at, count_of, count_at}
 use Rattle.av_sys.specs.Exact.{Exact}
-use Rattle.av_count.proofs.NodeForms.{got_In}
-use Rattle.av_count.proofs.ClassMembers.{members_law, once_place}
+use Rattle.av_count.proofs.ClassMembers.{members_law}
 use Rattle.av_text.specs.declared.queries.DistKind.{DistKind}
 use Rattle.av_text.specs.Queries.{stat_kind}
 use Rattle.av_bars.specs.Laws.{pair_of}
@@ -127,7 +127,7 @@ module _
     strange_none : (σ : List ℕ) → IsWord σ → (InClassWith basis required σ → ⊥) → place_among class.system σ ≡ None
     strange_none σ word strange =
         let l = listed_all (length σ) word.filled in
-        no_place class.system σ (λ s q. strange ((l.members σ).0 (got_In (members class.system (length σ)) s σ q)).member)
+        no_place class.system σ (λ s q. strange ((l.members σ).0 (get_In (members class.system (length σ)) s σ q)).member)
 
     lacking_one : (σ : List ℕ) → InClass basis σ → (InClassWith basis required σ → ⊥)
         → (find (contains σ) class.subject.found.basis ≡ None) × HasLack (required_of class.subject) σ
@@ -145,7 +145,7 @@ module _
         record {
           below = omega (arith, as_many n, below);
           there = here;
-          member = ((listed_all n h).members (get_or ws r [])).0 (got_In ws r (get_or ws r []) here);
+          member = ((listed_all n h).members (get_or ws r [])).0 (get_In ws r (get_or ws r []) here);
         }
 
     distributed_all : (k : DistKind) (n : ℕ) → 1 ≤ n → HasBars basis required (stat_kind k) n (map pair_of (dist k class.system n))

@@ -6,8 +6,8 @@ use Rattle.av_perm.specs.Members.{In, Once, IsListOf}
 use Rattle.av_perm.specs.Relations.{IsWord, InClassWithAt}
 use Rattle.av_perm.proofs.Membership.{In_at}
 use Rattle.av_perm.proofs.Pigeons.{pigeons}
+use Rattle.av_perm.proofs.ListLaws.{once_place}
 use Rattle.av_text.specs.declared.limits.TheConstants.{MAX_STATISTIC_LENGTH}
-use Rattle.av_count.proofs.ClassMembers.{once_place}
 
 -- entries below 13, and the number that they write to the base 13, the first least
 abbrev AreDigits : List ℕ → Type 0

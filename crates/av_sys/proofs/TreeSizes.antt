@@ -3,8 +3,8 @@ use Rattle.std.proofs.Common.{◌≡◌, ℕ, ◌≤◌, Bool, true, false, ◌&
 use Rattle.std.specs.List.{sum}
 use Rattle.std.proofs.lemmas.Bool.{and_parts}
 use Rattle.std.proofs.lemmas.List.Sums.{sum_by-cons}
-use Rattle.std.proofs.lemmas.Option.{slice_get_within, get_or_from_slice_get}
-use Rattle.av_perm.proofs.Membership.{In, Each, In_at}
+use Rattle.av_perm.proofs.Membership.{In, Each}
+use Rattle.av_perm.proofs.ListLaws.{get_In}
 use Rattle.av_sys.specs.declared.terms.Term.{Term}
 use Rattle.av_sys.specs.declared.terms.Term.TheVariants.{Point, Node}
 use Rattle.av_sys.specs.declared.terms.Equation.{Equation}
@@ -80,10 +80,6 @@ root_long w (inl e) = rw e (omega arith)
 root_long w (inr (inl e)) = rw e (omega arith)
 root_long w (inr (inr s)) = omega (arith, s.0.long)
 
--- what stands at an index is an element
-got_In : {A : Type 0} (xs : List A) (i : ℕ) (x : A) → slice_get xs i ≡ Some x → In x xs
-got_In xs i x e = subst (λ y. In y xs) (get_or_from_slice_get xs i x x e) (In_at xs i x (slice_get_within xs i x e))
-
 -- in a well-formed system every node branches
 pub nodes_branch : (S : System) → IsWellFormed S → (u t : ℕ) → Branches (term_at S u t)
 nodes_branch S h u t = at_equation (slice_get S.equations u) refl
@@ -94,8 +90,8 @@ nodes_branch S h u t = at_equation (slice_get S.equations u) refl
 
     at_term : (e : Equation) → In e S.equations → (o : Option Term) → slice_get e.terms t ≡ o → Branches o
     at_term e i None g = tt
-    at_term e i (Some term) g = term_branches term (h.terms e term i (got_In e.terms t term g))
+    at_term e i (Some term) g = term_branches term (h.terms e term i (get_In e.terms t term g))
 
     at_equation : (o : Option Equation) → slice_get S.equations u ≡ o → Branches (slice_get (terms_of o) t)
     at_equation None g = tt
-    at_equation (Some e) g = at_term e (got_In S.equations u e g) (slice_get e.terms t) refl
+    at_equation (Some e) g = at_term e (get_In S.equations u e g) (slice_get e.terms t) refl

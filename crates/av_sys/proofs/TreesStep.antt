@@ -1,9 +1,10 @@
 -- The trees of an equation are those of its terms in turn, over the lists of trees of the children: no bound on sizes is left.
-use Rattle.std.proofs.Common.{◌≡◌, ℕ, zero, suc, ◌<◌, ◌≤◌, List, [], ◌∷◌, ◌++◌, map, length, inl, inr, refl, sym, ◌∙◌, ap, ap₂, arith, Option, Some, None}
+use Rattle.std.proofs.Common.{◌≡◌, ℕ, zero, suc, ◌<◌, ◌≤◌, List, [], ◌∷◌, map, length, inl, inr, refl, sym, ◌∙◌, ap, ap₂, arith, Option, Some, None}
 use Rattle.std.specs.List.{flat_map}
 use Rattle.av_perm.specs.Lists.{counting, size_lists}
 use Rattle.av_perm.proofs.Membership.{Each, nil_from}
 use Rattle.av_perm.proofs.GeneratedLists.{sizes_from}
+use Rattle.av_perm.proofs.ListLaws.{flat_map_each}
 use Rattle.av_sys.specs.declared.terms.Term.{Term}
 use Rattle.av_sys.specs.declared.terms.Term.TheVariants.{Point, Node}
 use Rattle.av_sys.specs.declared.terms.System.{System}
@@ -13,12 +14,6 @@ use Rattle.av_sys.specs.TreeLists.{tree_lists, at_sizes, trees_of_term, trees_up
 use Rattle.av_sys.proofs.TreeSizes.{Branches, nodes_branch, size_positive}
 use Rattle.av_sys.proofs.TreesFit.{trees_fit}
 use Rattle.av_sys.proofs.TreesListed.{less_than_sum}
-
--- lists made of each element in equal ways
-flat_map_same : {A B : Type 0} (f g : A → List B) (xs : List A) → Each (λ x. f x ≡ g x) xs → flat_map f xs ≡ flat_map g xs
-flat_map_same f g [] h = refl
-flat_map_same {B = B} f g (x ∷ xs) h =
-    ap₂ (λ (ys zs : List B). ys ++ zs) (h x (inl refl)) (flat_map_same f g xs (λ y i. h y (inr i)))
 
 -- the lists of trees below a size are equal
 abbrev SameBelow : ℕ → (ℕ → ℕ → List Tree) → (ℕ → ℕ → List Tree) → Type 0
@@ -39,7 +34,7 @@ term_same : (n t : ℕ) (below other : ℕ → ℕ → List Tree) → SameBelow 
 term_same n t below other h None two = refl
 term_same n t below other h (Some Point) two = refl
 term_same n t below other h (Some (Node root children)) two =
-    flat_map_same (λ ns. made (at_sizes below children ns)) (λ ns. made (at_sizes other children ns)) (size_lists (length children) n)
+    flat_map_each (λ ns. made (at_sizes below children ns)) (λ ns. made (at_sizes other children ns)) (size_lists (length children) n)
     (λ ns i. let s = sizes_from (length children) n ns i in
     ap made (sizes_same n below other h children ns (λ m j. omega (arith, less_than_sum ns (omega (arith, two, s.long)) s.some m j, s.whole))))
   where
@@ -57,7 +52,7 @@ bound_free S two d e u zero k l = none_of_zero S two d u ∙ sym (none_of_zero S
 bound_free S two zero e u (suc n) k l = absurd (omega arith)
 bound_free S two (suc d) zero u (suc n) k l = absurd (omega arith)
 bound_free S two (suc d) (suc e) u (suc n) k l =
-    flat_map_same (λ t. trees_of_term (trees_up_to S d) (suc n) t (term_at S u t)) (λ t. trees_of_term (trees_up_to S e) (suc n) t (term_at S u t))
+    flat_map_each (λ t. trees_of_term (trees_up_to S d) (suc n) t (term_at S u t)) (λ t. trees_of_term (trees_up_to S e) (suc n) t (term_at S u t))
     (counting 0 (length (terms_at S u)))
     (λ t i. term_same (suc n) t (trees_up_to S d) (trees_up_to S e) (λ c m j. bound_free S two d e c m (omega arith) (omega arith)) (term_at S u t) (two u t))
 
@@ -67,7 +62,7 @@ pub trees_step : (S : System) → IsWellFormed S → (u n : ℕ)
 unfolding trees trees_up_to
 trees_step S w u n =
     bound_free S two n (suc n) u n (omega arith) (omega arith)
-    ∙ flat_map_same (λ t. trees_of_term (trees_up_to S n) n t (term_at S u t)) (λ t. trees_of_term (trees S) n t (term_at S u t))
+    ∙ flat_map_each (λ t. trees_of_term (trees_up_to S n) n t (term_at S u t)) (λ t. trees_of_term (trees S) n t (term_at S u t))
     (counting 0 (length (terms_at S u)))
     (λ t i. term_same n t (trees_up_to S n) (trees S) (λ c m j. bound_free S two n m c m (omega arith) (omega arith)) (term_at S u t) (two u t))
   where

@@ -5,14 +5,14 @@ use Rattle.std.proofs.lemmas.List.{length-map}
 use Rattle.std.proofs.lemmas.Option.{slice_get_within, slice_get_past, slice_get-get_or}
 use Rattle.av_perm.specs.Relations.{InClassWith}
 use Rattle.av_perm.specs.Class.{class_with_at}
+use Rattle.av_perm.proofs.ListLaws.{once_place, get_In}
 use Rattle.av_sys.specs.declared.terms.System.{System}
 use Rattle.av_sys.specs.Terms.{IsWellFormed}
 use Rattle.av_sys.specs.Trees.{value}
 use Rattle.av_sys.specs.TreeLists.{trees, members, members_at, count_of, count_at}
 use Rattle.av_sys.specs.Exact.{Exact}
 use Rattle.av_count.specs.Laws.{HasMembers}
-use Rattle.av_count.proofs.NodeForms.{got_In}
-use Rattle.av_count.proofs.ClassMembers.{members_law, once_place}
+use Rattle.av_count.proofs.ClassMembers.{members_law}
 use Rattle.av_tree.specs.declared.ranking.Ranked.{Ranked}
 use Rattle.av_tree.specs.declared.ranking.Ranked.TheVariants.{At, Big, Stranger}
 use Rattle.av_tree.specs.Ranks.{IsPlaceOf}
@@ -30,7 +30,7 @@ unrank_law S basis required n r formed exact one =
     let h = members_law S basis required n formed exact one in
     let k = members_count S basis required n h in
     record {
-      member = λ w e. (h.listed.members w).0 (got_In (members S n) r w e);
+      member = λ w e. (h.listed.members w).0 (get_In (members S n) r w e);
       past = (
         λ e. elim (cases_lt r (length (members S n))) [
           | inl l ↦ absurd (no_end (members S n) r l e)

@@ -4,6 +4,7 @@ use Rattle.std.specs.Option.{option_map}
 use Rattle.std.proofs.lemmas.Bool.{ltb-true, ltb-false}
 use Rattle.std.proofs.lemmas.List.{get_or-map, length-map}
 use Rattle.std.proofs.lemmas.Option.{slice_get_within, get_or_from_slice_get, slice_get-get_or, slice_get-map}
+use Rattle.av_perm.proofs.ListLaws.{once_place, get_In}
 use Rattle.av_sys.specs.declared.terms.System.{System}
 use Rattle.av_sys.specs.Terms.{IsWellFormed}
 use Rattle.av_sys.specs.Trees.{Tree, none, value}
@@ -15,8 +16,6 @@ use Rattle.av_count.specs.declared.count.Count.{Count}
 use Rattle.av_count.specs.declared.count.Count.TheVariants.{Known, Over}
 use Rattle.av_count.specs.Counts.{capped}
 use Rattle.av_sys.specs.TreeLists.{members_at, count_at}
-use Rattle.av_count.proofs.NodeForms.{got_In}
-use Rattle.av_count.proofs.ClassMembers.{once_place}
 use Rattle.av_tree.specs.declared.ranking.Ranked.{Ranked}
 use Rattle.av_tree.specs.declared.ranking.Ranked.TheVariants.{At, Big, Stranger}
 use Rattle.av_tree.specs.Picks.{RankedAt}
@@ -26,7 +25,7 @@ use Rattle.av_tree.proofs.TreeWords.{tree_word}
 
 -- what stands in the list of trees is a tree of the size
 pub listed_tree : (S : System) → IsWellFormed S → (n r : ℕ) (T : Tree) → slice_get (trees S 0 n) r ≡ Some T → IsTreeOfSize S 0 n T
-listed_tree S w n r T e = ((trees_law S 0 n w).listed.members T).0 (got_In (trees S 0 n) r T e)
+listed_tree S w n r T e = ((trees_law S 0 n w).listed.members T).0 (get_In (trees S 0 n) r T e)
 
 -- the place at which a word stands in the list of words
 word_place : (S : System) (w : List ℕ) (r : ℕ) → IsWellFormed S → NamedUpTo S (length w) → r < count_at S 0 (length w) → get_or (members_at S 0 (length w)) r [] ≡ w → IsPlaceOf S w r

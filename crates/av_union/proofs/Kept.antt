@@ -10,9 +10,10 @@ use Rattle.av_perm.specs.Word.{shortlex}
 use Rattle.av_perm.specs.Contain.{contains}
 use Rattle.av_perm.specs.Class.{insert_word}
 use Rattle.av_perm.specs.Relations.{IsWord, AreWords, Contains}
-use Rattle.av_perm.proofs.Membership.{In, In_at, In_append_cases, In_one}
+use Rattle.av_perm.proofs.Membership.{In, In_append_cases, In_one}
 use Rattle.av_perm.proofs.Containment.{contains_trans}
 use Rattle.av_perm.proofs.ShortlexLists.{insert_In, insert_new, insert_old, insert_ascending}
+use Rattle.av_perm.proofs.ListLaws.{get_In}
 use Rattle.av_match.proofs.Gathered.{insert_same}
 use Rattle.av_union.specs.declared.choices.Choice.{Choice}
 use Rattle.av_union.specs.Union.{ContainsSome, InBoth, IsMinimalInBoth, union}
@@ -145,10 +146,6 @@ some_decided W E = elim (cases_Bool (list_any (λ v. contains W v) E)) [
   | inr e ↦ inr (λ c. true≢false (sym (some_to W E c) ∙ e))
 ]
 
--- the word at an index is in the list
-pub index_In : (ws : List (List ℕ)) (i : ℕ) (w : List ℕ) → slice_get ws i ≡ Some w → In w ws
-index_In ws i w e = subst (λ v. In v ws) (get_or_from_slice_get ws i w [] e) (In_at ws i [] (slice_get_within ws i w e))
-
 -- one more word is gone through
 pub reaches_more : (E F G : List (List ℕ)) (f u q : List ℕ) (i : ℕ) (old new : List (List ℕ)) → AreWords F → slice_get F i ≡ Some f → u ≡ f → q ≡ [] → E ≡ take i F
     → Reaches F G i old → Gathers E F G u q old new → Reaches F G (i + 1) new
@@ -172,7 +169,7 @@ reaches_more E F G f u q i old new words at_i e none early r g = record {
     new_one W m c = elim (some_decided W (take i F)) [
       | inl s ↦ old_one W s.0 m s.1 s.2
       | inr n ↦
-          let k = minimal_covered_by F G W f words m (index_In F i f at_i) c in
+          let k = minimal_covered_by F G W f words m (get_In F i f at_i) c in
           let from_f : GrowsTo k.0 u [] W = subst (λ (x : List ℕ). GrowsTo k.0 x [] W) (sym e) (start_grows f k.0 W k.2) in
           let grows : GrowsTo k.0 u q W = subst (λ (p : List ℕ). GrowsTo k.0 u p W) (sym none) from_f in
           g.whole W k.0 (record { minimal = m; later = λ v j d. n (v, subst (λ (x : List (List ℕ)). In v x) early j, d) }) k.1 grows

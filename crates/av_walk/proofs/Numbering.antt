@@ -1,8 +1,7 @@
 -- What the terms of a root ask, by number, as the list of patterns grows.
-use Rattle.std.proofs.Common.{◌≡◌, ℕ, zero, suc, ◌+◌, ◌<◌, List, [], ◌∷◌, ◌++◌, map, take, length, get_or, slice_get, cond, inl, inr, Bool, true, false, Some, refl, sym, ap, ap₂, ◌∙◌, subst, arith, append_assoc, append-nil}
+use Rattle.std.proofs.Common.{◌≡◌, ℕ, zero, suc, ◌+◌, ◌<◌, List, [], ◌∷◌, ◌++◌, map, take, length, get_or, slice_get, cond, Bool, true, false, Some, refl, sym, ap, ap₂, ◌∙◌, subst, arith, append_assoc, append-nil}
 use Rattle.std.proofs.lemmas.List.{map-append, length-take, length-map}
 use Rattle.std.specs.declared.cmp.Ordering.TheVariants.{Less}
-use Rattle.av_perm.specs.Members.{In}
 use Rattle.av_perm.specs.Lists.{same, Extends}
 use Rattle.av_perm.specs.Word.{shortlex}
 use Rattle.av_perm.specs.Class.{insert_by, insert_word, in_shortlex}
@@ -18,12 +17,6 @@ use Rattle.av_split.proofs.Numbered.{question_more, take_more}
 use Rattle.av_walk.specs.Walk.{Literal}
 use Rattle.av_walk.specs.Leaves.{name_of_equation, names_at, names_of_root, asks, child_literals, literals}
 use Rattle.av_walk.specs.Numbers.{IsLiteralOf, AreLiteralsOf, AreTermsOf}
-
--- an item at an index is in the list
-pub slice_In : {A : Type 0} (xs : List A) (i : ℕ) (x : A) → slice_get xs i ≡ Some x → In x xs
-slice_In [] i x e = absurd (cc)
-slice_In (y ∷ xs) zero x e = inl (cc)
-slice_In (y ∷ xs) (suc i) x e = inr (slice_In xs i x e)
 
 -- words that ascend are in shortlex order
 pub ascending_is : (ws : List (List ℕ)) → ((i : ℕ) → suc i < length ws → shortlex (get_or ws i []) (get_or ws (suc i) []) ≡ Less) → in_shortlex ws ≡ ws

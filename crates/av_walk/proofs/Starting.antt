@@ -9,6 +9,7 @@ use Rattle.av_perm.specs.Relations.{IsWord}
 use Rattle.av_perm.specs.Class.{in_shortlex}
 use Rattle.av_perm.proofs.Membership.{Each, In_map, In_append_cases, In_flat_map, all_each}
 use Rattle.av_perm.proofs.ShortlexLists.{shortlex_In}
+use Rattle.av_perm.proofs.ListLaws.{get_In}
 use Rattle.av_sys.specs.Names.{IsMadeOfWords}
 use Rattle.av_sys.specs.declared.names.Name.{Name}
 use Rattle.av_sys.specs.declared.terms.Term.{Term}
@@ -29,7 +30,6 @@ use Rattle.av_walk.specs.Leaves.{name_of_equation, names_at, names_of_root, asks
 use Rattle.av_walk.specs.Numbers.{IsLiteralOf, AreLiteralsOf, AreTermsOf}
 use Rattle.av_walk.specs.Paths.{asked_of, IsAptLiteral, AreCuts, Inherits, IsPath, IsWalk, parts_left, left_of}
 use Rattle.av_walk.proofs.GenericWalk.{questions_with}
-use Rattle.av_walk.proofs.Numbering.{slice_In}
 
 -- what a name asks is about words
 asks_words : (r : Bool) (i : ℕ) (ws : List (List ℕ)) → Each IsWord ws → (l : Literal Question) → In l (map (asks r i) (in_shortlex ws)) → IsWord l.question.word
@@ -57,7 +57,7 @@ module _ (S : System) (named : Each (λ (e : Equation). IsMadeOfWords e.name) S.
   names_words : (cs : List ℕ) → Each IsMadeOfWords (names_at S cs)
   names_words cs n i =
       let c = In_map (λ c. name_of_equation (slice_get S.equations c)) cs n i in
-      subst IsMadeOfWords (sym c.2) (equation_words (slice_get S.equations c.0) (λ e q. slice_In S.equations c.0 e q))
+      subst IsMadeOfWords (sym c.2) (equation_words (slice_get S.equations c.0) (λ e q. get_In S.equations c.0 e q))
 
   root_words : (root : List ℕ) (ts : List Term) (ns : List Name) → In ns (names_of_root S root ts) → Each IsMadeOfWords ns
   root_words root [] ns i = absurd i

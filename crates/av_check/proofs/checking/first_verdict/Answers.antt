@@ -1,7 +1,7 @@
 -- The next equation.
 use Rattle.std.proofs.Common.{◌∙◌}
+use Rattle.av_perm.proofs.ListLaws.{get_In}
 use Rattle.av_build.specs.declared.limits.TheConstants.{MAX_SIZE}
-use Rattle.av_build.proofs.Growing.{get_In}
 use Rattle.av_check.specs.Verdicts.{equation_fault}
 use Rattle.av_check.proofs.Checked.{equation_passed, equation_ends}
 use Rattle.av_check.proofs.checking.first_verdict.Goals as goal

@@ -3,8 +3,9 @@ use Rattle.std.proofs.Common.{ℕ, List, [], length, get_or, take, sym, ap, subs
 use Rattle.av_perm.specs.Relations.{Contains}
 use Rattle.av_perm.proofs.Membership.{In_at}
 use Rattle.av_perm.proofs.Containment.{contains_same}
+use Rattle.av_perm.proofs.ListLaws.{get_In}
 use Rattle.av_union.proofs.ListSteps.{perms_words}
-use Rattle.av_union.proofs.Kept.{index_In, union_none, reaches_more, reaches_all}
+use Rattle.av_union.proofs.Kept.{union_none, reaches_more, reaches_all}
 use Rattle.av_union.proofs.uniting.gathered.Goals as goal
 
 pub returns-then-len-eq0 : goal.returns-then-len-eq0
@@ -15,12 +16,12 @@ returns-then-len-eq0 c =
 pub gather-requires-clause-holds : goal.gather-requires-clause-holds
 gather-requires-clause-holds c =
     let f = c.get.result.now in
-    (f, index_In c.args.first.now c.loop-i.i f c.get.ensures, subst (λ (v : List ℕ). Contains v f) (sym c.of.ensures.word) (contains_same f))
+    (f, get_In c.args.first.now c.loop-i.i f c.get.ensures, subst (λ (v : List ℕ). Contains v f) (sym c.of.ensures.word) (contains_same f))
 
 pub gather-requires-clause-few : goal.gather-requires-clause-few
 gather-requires-clause-few c =
     let f = c.get.result.now in
-    let i = index_In c.args.first.now c.loop-i.i f c.get.ensures in
+    let i = get_In c.args.first.now c.loop-i.i f c.get.ensures in
     let g = get_or c.args.second.now 0 [] in
     let short = c.requires f g i (In_at c.args.second.now 0 [] (omega (arith, c.len.ensures.value, c.if-len-eq0.false))) in
     omega (arith, ap length c.of.ensures.word)

@@ -1,12 +1,12 @@
 -- What the next child is asked.
 use Rattle.std.proofs.Common.{length, refl, sym, subst, arith, ◌+◌}
-use Rattle.av_perm.proofs.ListLaws.{extends_trans}
+use Rattle.av_perm.proofs.ListLaws.{extends_trans, get_In}
 use Rattle.av_walk.specs.Numbers.{AreLiteralsOf}
-use Rattle.av_walk.proofs.Numbering.{slice_In, child_next}
+use Rattle.av_walk.proofs.Numbering.{child_next}
 use Rattle.av_walk.proofs.literals.term_of.Goals as goal
 
 pub get-equation-requires : goal.get-equation-requires
-get-equation-requires c = c.requires c.get.result.now (slice_In c.args.children.now c.loop-i.i c.get.result.now c.get.ensures)
+get-equation-requires c = c.requires c.get.result.now (get_In c.args.children.now c.loop-i.i c.get.result.now c.get.ensures)
 
 pub loop-i-preserved : goal.loop-i-preserved
 loop-i-preserved c = record {
