@@ -6,7 +6,7 @@ use Rattle.av_perm.specs.Word.{ArePerms}
 use Rattle.av_perm.proofs.MinimalWords.{each_words}
 use Rattle.av_perm.proofs.TopWords.{top_long}
 use Rattle.av_perm.proofs.Membership.{each_all}
-use Rattle.av_split.proofs.Cutting.{perms_words}
+use Rattle.av_perm.proofs.PermWords.{perms_words}
 
 -- they are words
 pub are_words : (ws : List (List ℕ)) → ArePerms ws → AreWords ws

@@ -11,15 +11,15 @@ use Rattle.av_build.specs.Alive.{marks_within}
 use Rattle.av_build.specs.Lean.{found_after, lean}
 
 -- an equation with this name and these terms
-abbrev equation : Sign → List (List ℕ) → List (List ℕ) → List Term → Equation
+abbrev pub equation : Sign → List (List ℕ) → List (List ℕ) → List Term → Equation
 equation sign avoid require terms = record { name = record { sign = sign; avoid = avoid; require = require }; terms = terms }
 
 -- a sum of words of two equations
-abbrev plus : ℕ → ℕ → Term
+abbrev pub plus : ℕ → ℕ → Term
 plus first second = Node (1 ∷ 2 ∷ []) (first ∷ second ∷ [])
 
 -- the canonical system: equations 3 and 5 generate nothing
-abbrev increasing : System
+abbrev pub increasing : System
 increasing = record {
   equations =
       equation C ((2 ∷ 1 ∷ []) ∷ []) ((1 ∷ 2 ∷ 3 ∷ []) ∷ []) (plus 1 2 ∷ plus 3 4 ∷ plus 5 4 ∷ [])
@@ -33,7 +33,7 @@ increasing = record {
 }
 
 -- the lean one
-abbrev lean_increasing : System
+abbrev pub lean_increasing : System
 lean_increasing = record {
   equations =
       equation C ((2 ∷ 1 ∷ []) ∷ []) ((1 ∷ 2 ∷ 3 ∷ []) ∷ []) (plus 1 2 ∷ [])

@@ -5,10 +5,10 @@ use Rattle.std.proofs.lemmas.Option.{slice_get_within, get_or_from_slice_get}
 use Rattle.av_perm.specs.declared.words.Memory.{Memory}
 use Rattle.av_perm.specs.Word.{ArePerms}
 use Rattle.av_perm.proofs.Membership.{all_each}
+use Rattle.av_perm.proofs.PermWords.{perms_words}
 use Rattle.av_sys.specs.declared.names.Name.{Name}
 use Rattle.av_sys.specs.declared.terms.Equation.{Equation}
 use Rattle.av_sys.specs.Names.{IsMadeOfWords}
-use Rattle.av_split.proofs.Cutting.{perms_words}
 use Rattle.av_build.specs.declared.limits.TheConstants.{MAX_SIZE}
 use Rattle.av_build.specs.Canonical.{is_void}
 use Rattle.av_build.proofs.HeldWords.{are_words}

@@ -8,6 +8,7 @@ use Rattle.av_perm.specs.Relations.{IsWord}
 use Rattle.av_perm.proofs.Membership.{Each, In_map, all_each}
 use Rattle.av_perm.proofs.WordTests.{word_from}
 use Rattle.av_perm.proofs.ListLaws.{get_In}
+use Rattle.av_perm.proofs.PermWords.{perms_words}
 use Rattle.av_sys.specs.declared.names.Name.{Name}
 use Rattle.av_sys.specs.declared.terms.Term.TheVariants.{Node}
 use Rattle.av_sys.specs.declared.terms.Equation.{Equation}
@@ -15,7 +16,6 @@ use Rattle.av_sys.specs.declared.terms.System.{System}
 use Rattle.av_sys.specs.Names.{IsMadeOfWords}
 use Rattle.av_sys.specs.Terms.{IsSystemRoot}
 use Rattle.av_split.specs.Boxes.{Box}
-use Rattle.av_split.proofs.Cutting.{perms_words}
 use Rattle.av_build.specs.declared.limits.TheConstants.{MAX_SIZE}
 use Rattle.av_build.specs.Drafts.{child_names}
 use Rattle.av_build.specs.Laws.{Covers}

@@ -7,7 +7,7 @@ use Rattle.av_perm.specs.Word.{ArePerms}
 use Rattle.av_perm.specs.Simple.{is_simple}
 use Rattle.av_perm.proofs.Tests.{all_from}
 use Rattle.av_perm.proofs.SimpleWords.{simple_law}
-use Rattle.av_split.proofs.Cutting.{perms_words}
+use Rattle.av_perm.proofs.PermWords.{perms_words}
 use Rattle.av_build.specs.Laws.{AreRoots}
 
 -- simple words of at most MAX_ROOT_LENGTH entries are roots

@@ -4,54 +4,19 @@ use Rattle.av_perm.specs.Lists.{all_lists, choices}
 use Rattle.av_perm.specs.Contain.{contains}
 use Rattle.av_embed.specs.Embed.{embeddings}
 use Rattle.av_name.specs.Constraints.{known_of}
-use Rattle.av_sys.specs.declared.names.Sign.{Sign}
 use Rattle.av_sys.specs.declared.names.Sign.TheVariants.{C, P, M}
 use Rattle.av_sys.specs.declared.terms.Term.{Term}
 use Rattle.av_sys.specs.declared.terms.Term.TheVariants.{Point, Node}
-use Rattle.av_sys.specs.declared.terms.Equation.{Equation}
 use Rattle.av_sys.specs.declared.terms.System.{System}
 use Rattle.av_sys.proofs.Worked.{avoiders_of_132}
 use Rattle.av_build.specs.Drafts.{drafts}
 use Rattle.av_build.specs.Canonical.{grow_from}
 use Rattle.av_build.specs.Alive.{marks_within}
+use Rattle.av_build.proofs.LeanWorked.{equation, plus, increasing, lean_increasing}
 use Rattle.av_check.specs.declared.claim.Claim.{Claim}
 use Rattle.av_check.specs.declared.verdict.Flaw.TheVariants.{Lost, Twice, Extra, Large}
 use Rattle.av_check.specs.declared.verdict.Verdict.TheVariants as verdicts
 use Rattle.av_check.specs.Verdicts.{verdict_up_to}
-
--- an equation with this name and these terms
-abbrev equation : Sign → List (List ℕ) → List (List ℕ) → List Term → Equation
-equation sign avoid require terms = record { name = record { sign = sign; avoid = avoid; require = require }; terms = terms }
-
--- a sum of words of two equations
-abbrev plus : ℕ → ℕ → Term
-plus first second = Node (1 ∷ 2 ∷ []) (first ∷ second ∷ [])
-
--- the canonical system: equations 3 and 5 generate nothing
-abbrev increasing : System
-increasing = record {
-  equations =
-      equation C ((2 ∷ 1 ∷ []) ∷ []) ((1 ∷ 2 ∷ 3 ∷ []) ∷ []) (plus 1 2 ∷ plus 3 4 ∷ plus 5 4 ∷ [])
-      ∷ equation P ((1 ∷ 2 ∷ []) ∷ (2 ∷ 1 ∷ []) ∷ []) [] (Point ∷ [])
-      ∷ equation C ((2 ∷ 1 ∷ []) ∷ []) ((1 ∷ 2 ∷ []) ∷ []) (plus 6 4 ∷ [])
-      ∷ equation P ((2 ∷ 1 ∷ []) ∷ (1 ∷ 2 ∷ 3 ∷ []) ∷ []) ((1 ∷ 2 ∷ []) ∷ []) []
-      ∷ equation C ((2 ∷ 1 ∷ []) ∷ []) [] (Point ∷ plus 6 4 ∷ [])
-      ∷ equation P ((2 ∷ 1 ∷ []) ∷ []) ((1 ∷ 2 ∷ 3 ∷ []) ∷ []) []
-      ∷ equation P ((2 ∷ 1 ∷ []) ∷ []) [] (Point ∷ [])
-      ∷ [];
-}
-
--- the lean one
-abbrev lean_increasing : System
-lean_increasing = record {
-  equations =
-      equation C ((2 ∷ 1 ∷ []) ∷ []) ((1 ∷ 2 ∷ 3 ∷ []) ∷ []) (plus 1 2 ∷ [])
-      ∷ equation P ((1 ∷ 2 ∷ []) ∷ (2 ∷ 1 ∷ []) ∷ []) [] (Point ∷ [])
-      ∷ equation C ((2 ∷ 1 ∷ []) ∷ []) ((1 ∷ 2 ∷ []) ∷ []) (plus 3 4 ∷ [])
-      ∷ equation P ((2 ∷ 1 ∷ []) ∷ []) [] (Point ∷ [])
-      ∷ equation C ((2 ∷ 1 ∷ []) ∷ []) [] (Point ∷ plus 3 4 ∷ [])
-      ∷ [];
-}
 
 -- the claim of a system for the class that avoids 132
 abbrev claim_of_132 : System → Claim

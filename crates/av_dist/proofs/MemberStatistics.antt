@@ -1,13 +1,14 @@
 -- The statistics of the members of an equation are those of its terms in turn, and each is below the width of the row.
 use Rattle.std.proofs.Common.{◌≡◌, ℕ, zero, suc, ◌+◌, ◌-◌, ◌*◌, ◌/◌, ◌<◌, ◌≤◌, List, [], ◌∷◌, map, length, cond, true, false, Bool, refl, sym, ap, ◌∙◌, subst, arith, flat_map, nat_lt, nat_eq, count_by, ◌==◌, Option, Some, None}
 use Rattle.std.proofs.lemmas.List.{length-map}
-use Rattle.std.proofs.lemmas.List.Sums.{count_by-le-length, length-filter}
+use Rattle.std.proofs.lemmas.List.Sums.{length-filter}
 use Rattle.av_perm.specs.Lists.{counting}
 use Rattle.av_perm.specs.Members.{In}
-use Rattle.av_perm.specs.Stat.{inversions, descents}
+use Rattle.av_perm.specs.Stat.{descents}
 use Rattle.av_perm.specs.Inflate.{inflate}
 use Rattle.av_perm.proofs.Membership.{In_map, at_In}
 use Rattle.av_perm.proofs.ListLaws.{map_flat_map}
+use Rattle.av_perm.proofs.StatCounts.{pairs_of, inversions_within}
 use Rattle.av_sys.specs.declared.terms.Term.{Term}
 use Rattle.av_sys.specs.declared.terms.Term.TheVariants.{Point, Node}
 use Rattle.av_sys.specs.declared.terms.System.{System}
@@ -91,11 +92,6 @@ statistics_by_terms s S e =
         ∙ map_flat_map (statistic_by s.kind) (λ t. term_words s.system n (term_at s.system u t)) (counting 0 (length (terms_at s.system u)))
         ∙ flat_map_same _ _ (counting 0 (length (terms_at s.system u))) (λ t. term_statistics_are s.kind s.system s.largest f u t n (term_at s.system u t) refl)
 
--- the number of pairs of n places
-pairs_of : ℕ → ℕ
-pairs_of zero = 0
-pairs_of (suc n) = n + pairs_of n
-
 pairs_double : (n : ℕ) → 2 * pairs_of (suc n) ≡ suc n * n
 unfolding pairs_of
 pairs_double zero = omega arith
@@ -115,12 +111,7 @@ pairs_width (suc n) =
     half : (p m : ℕ) → 2 * p ≡ m → p + 1 ≡ m / 2 + 1
     half p m h = omega arith
 
--- the statistics of a word are at most that
-inversions_within : (w : List ℕ) → inversions w ≤ pairs_of (length w)
-unfolding pairs_of
-inversions_within [] = omega arith
-inversions_within (x ∷ w) = omega (arith, count_by-le-length (λ y. nat_lt y x) w, inversions_within w)
-
+-- the statistics of a word are at most the number of pairs of its places
 descents_within : (w : List ℕ) → descents w ≤ pairs_of (length w)
 unfolding pairs_of
 descents_within [] = omega arith

@@ -62,7 +62,7 @@ word_hits w v i h k =
     (r.0, r.1, omega arith)
 
 -- at most all entries lie below a number
-smaller_le : (v : ℕ) (w : List ℕ) → smaller v w ≤ length w
+pub smaller_le : (v : ℕ) (w : List ℕ) → smaller v w ≤ length w
 smaller_le v [] = omega arith
 smaller_le v (x ∷ w) = let k = smaller_le v w in elim (cases_lt x v) [
   | inl l ↦ let a : cond {A = ℕ} (ltb x v) 1 0 ≡ 1 = ap (λ b. cond {A = ℕ} b 1 0) (lt-ltb x v l) in omega arith

@@ -1,17 +1,19 @@
 -- The words of the type `Perm`: words of length up to 160.
-use Rattle.std.proofs.Common.{◌≡◌, ℕ, ◌≤◌, List, [], ◌∷◌, length, Bool, true, false, not, ◌&&◌, nat_le, nat_eq, ◌==◌, IsPermutation, refl, sym, arith, eq-eqb, eqb-true, le-leb, leb-true}
+use Rattle.std.proofs.Common.{◌≡◌, ℕ, ◌≤◌, List, [], ◌∷◌, length, Bool, true, false, not, ◌&&◌, nat_le, nat_eq, ◌==◌, IsPermutation, refl, sym, arith, eq-eqb, eqb-true, le-leb, leb-true, get_or, subst}
 use Rattle.std.specs.List.{list_any, list_all, IsDistinct, AllByRecursion}
 use Rattle.std.proofs.lemmas.Bool.{and_parts, and_from, or_parts, not_from_false}
 use Rattle.std.proofs.lemmas.Bool.Decides.{same_from_decides}
 use Rattle.std.proofs.lemmas.List.Sums.{AllPass-from_list_all, list_all-from_AllPass}
 use Rattle.std.proofs.lemmas.List.Sorted.{All-permutation, length_permutation}
 use Rattle.std.proofs.lemmas.Map.Keys.{IsDistinct-IsPermutation}
+use Rattle.std.proofs.lemmas.List.Elements.{All-get_or}
 use Rattle.av_perm.specs.Lists.{counting}
-use Rattle.av_perm.specs.Word.{is_distinct, is_word, is_perm}
-use Rattle.av_perm.specs.Relations.{IsWord}
+use Rattle.av_perm.specs.Word.{is_distinct, is_word, is_perm, ArePerms}
+use Rattle.av_perm.specs.Relations.{IsWord, AreWords}
 use Rattle.av_perm.proofs.NoRepeats.{IsApart, apart_from_once, once_counting}
 use Rattle.av_perm.proofs.RisingLists.{length_counting, counting_at}
 use Rattle.av_perm.proofs.WordTests.{distinct_once, word_from, word_to}
+use Rattle.av_perm.proofs.Membership.{Each, at_In}
 use Rattle.av_perm.specs.declared.limits.TheConstants.{MAX_LENGTH}
 
 -- the test of the type, as a relation
@@ -81,3 +83,13 @@ perm_kept xs ys p e =
   where
     kept : (t : ℕ → Bool) → list_all t xs ≡ true → list_all t ys ≡ true
     kept t h = list_all-from_AllPass t ys (All-permutation (λ x. t x ≡ true) xs ys p (AllPass-from_list_all t xs h))
+
+-- the words of a list of the code are words, element by element
+pub perms_words : (ws : List (List ℕ)) → ArePerms ws → Each IsWord ws
+perms_words ws g w i =
+    let s = at_In ws w [] i in
+    subst IsWord s.2 (perm_word (get_or ws s.0 []) (All-get_or (λ v. is_perm v ≡ true) ws s.0 [] s.1 g))
+
+-- and index by index
+pub perms_are_words : (ws : List (List ℕ)) → ArePerms ws → AreWords ws
+perms_are_words ws g i h = perm_word (get_or ws i []) (All-get_or (λ v. is_perm v ≡ true) ws i [] h g)

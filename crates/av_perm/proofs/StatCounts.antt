@@ -12,28 +12,29 @@ use Rattle.av_perm.proofs.Occurrences.{entry_at}
 use Rattle.av_perm.proofs.Tests.{all_to, all_from}
 use Rattle.av_perm.specs.declared.limits.TheConstants.{MAX_LENGTH, MAX_STATISTIC}
 
--- the pairs of n places
-pairs : ℕ → ℕ
-pairs zero = 0
-pairs (suc n) = n + pairs n
+-- the number of pairs of n places
+unfoldable pub pairs_of : ℕ → ℕ
+pairs_of zero = 0
+pairs_of (suc n) = n + pairs_of n
 
-pairs_grow : (m n : ℕ) → m ≤ n → pairs m ≤ pairs n
-unfolding pairs
+pairs_grow : (m n : ℕ) → m ≤ n → pairs_of m ≤ pairs_of n
+unfolding pairs_of
 pairs_grow zero n h = omega arith
 pairs_grow (suc m) zero h = absurd (omega arith)
 pairs_grow (suc m) (suc n) h = let k : m ≤ n = omega arith in omega (arith, pairs_grow m n k)
 
-pairs_of_longest : pairs MAX_LENGTH ≡ MAX_STATISTIC
-unfolding pairs
+pairs_of_longest : pairs_of MAX_LENGTH ≡ MAX_STATISTIC
+unfolding pairs_of
 pairs_of_longest = refl
 
-inversions_below : (w : List ℕ) → inversions w ≤ pairs (length w)
-unfolding pairs
-inversions_below [] = omega arith
-inversions_below (x ∷ xs) = omega (arith, count_by-le-length (λ y. nat_lt y x) xs, inversions_below xs)
+-- a word has at most so many inversions
+pub inversions_within : (w : List ℕ) → inversions w ≤ pairs_of (length w)
+unfolding pairs_of
+inversions_within [] = omega arith
+inversions_within (x ∷ xs) = omega (arith, count_by-le-length (λ y. nat_lt y x) xs, inversions_within xs)
 
 pub inversions_few : (w : List ℕ) → length w ≤ MAX_LENGTH → inversions w ≤ MAX_STATISTIC
-inversions_few w h = omega (arith, inversions_below w, pairs_grow (length w) MAX_LENGTH h, pairs_of_longest)
+inversions_few w h = omega (arith, inversions_within w, pairs_grow (length w) MAX_LENGTH h, pairs_of_longest)
 
 -- inversions whose first place is the first of those that are left
 pub inversions_turn : (w : List ℕ) (i : ℕ) → i < length w → inversions (drop i w) ≡ count_by (λ y. nat_lt y (get_or w i 0)) (drop (i + 1) w) + inversions (drop (i + 1) w)

@@ -4,11 +4,8 @@ use Rattle.std.proofs.lemmas.Bool.{cases_eq}
 use Rattle.std.proofs.lemmas.List.{get_or-map, length-map, map-set, length-set, get_or-replicate, length-replicate, get_or-set_same, get_or-set_other, reverse-append}
 use Rattle.std.specs.List.{flat_map}
 use Rattle.av_perm.specs.Members.{In}
-use Rattle.av_perm.proofs.Membership.{Each, at_In, append_left, append_right}
-use Rattle.av_perm.proofs.PermWords.{perm_word}
+use Rattle.av_perm.proofs.Membership.{Each, append_left, append_right}
 use Rattle.av_perm.proofs.Pointwise.{pointwise_In}
-use Rattle.av_perm.specs.Word.{is_perm, ArePerms}
-use Rattle.std.proofs.lemmas.List.Elements.{All-get_or}
 use Rattle.av_perm.specs.Relations.{IsWord}
 use Rattle.av_perm.specs.Lists.{Pointwise}
 use Rattle.av_sys.specs.declared.names.Constraint.{Constraint}
@@ -546,9 +543,3 @@ starts π A R ps ds p n ga gr asked l r f z t =
           ∙ append-nil (boxes_by word_rules (demands π A R) (box_of ps p.rows.items))
           ∙ ap (boxes_by word_rules (demands π A R)) (ap (box_of ps) is ∙ free_box (length π) ps),
     )
-
--- the words of a list of words in place
-pub perms_words : (ws : List (List ℕ)) → ArePerms ws → Each IsWord ws
-perms_words ws g w i =
-    let s = at_In ws w [] i in
-    subst IsWord s.2 (perm_word (get_or ws s.0 []) (All-get_or (λ v. is_perm v ≡ true) ws s.0 [] s.1 g))

@@ -1,12 +1,12 @@
 -- A partial overlay that can grow to a word takes a next step to it: the pattern's next entry stands in the word at an entry
 -- that the partial overlay has, or is a new one.
-use Rattle.std.proofs.Common.{◌≡◌, ℕ, suc, ◌*◌, ◌<◌, ◌≤◌, ◌≢◌, ◌⊎◌, inl, inr, ◌↔◌, List, [], ◌∷◌, ◌++◌, map, length, take, cond, ltb, lt-ltb, sym, ap, ◌∙◌, subst, arith, length-take-le}
+use Rattle.std.proofs.Common.{◌≡◌, ℕ, suc, ◌*◌, ◌<◌, ◌≤◌, ◌≢◌, ◌⊎◌, inl, inr, ◌↔◌, List, [], ◌∷◌, ◌++◌, map, length, take, sym, ap, ◌∙◌, subst, arith, length-take-le}
 use Rattle.std.specs.List.{insert}
-use Rattle.std.proofs.lemmas.Bool.{cases_lt, cases_eq, le-ltb}
+use Rattle.std.proofs.lemmas.Bool.{cases_lt, cases_eq}
 use Rattle.std.proofs.lemmas.List.{get_or-map, length-map, take_all, get_or-take}
 use Rattle.av_perm.specs.Relations.{at, IsWord, IsOccurrence, Contains, SameOrder, smaller, pattern_of}
 use Rattle.av_perm.proofs.Membership.{In, In_at, at_In}
-use Rattle.av_perm.proofs.Patterns.{pattern_order, pattern_same, pattern_at, word_pattern, smaller_mono, smaller_more}
+use Rattle.av_perm.proofs.Patterns.{pattern_order, pattern_same, pattern_at, word_pattern, smaller_mono, smaller_more, smaller_le}
 use Rattle.av_perm.proofs.Orders.{order_join}
 use Rattle.av_union.specs.declared.choices.Choice.{Choice}
 use Rattle.av_union.specs.declared.choices.Choice.TheVariants.{Shared, New}
@@ -72,14 +72,6 @@ start_grows σ τ W c =
     )
 
 -- ---- the entries of a partial overlay in the word to which it grows
-
--- at most all numbers lie below another (the lemma `smaller_le` of `av_perm`, which is not public there)
-smaller_few : (v : ℕ) (w : List ℕ) → smaller v w ≤ length w
-smaller_few v [] = omega arith
-smaller_few v (x ∷ w) = let k = smaller_few v w in elim (cases_lt x v) [
-  | inl l ↦ let a : cond {A = ℕ} (ltb x v) 1 0 ≡ 1 = ap (λ b. cond {A = ℕ} b 1 0) (lt-ltb x v l) in omega arith
-  | inr l ↦ let a : cond {A = ℕ} (ltb x v) 1 0 ≡ 0 = ap (λ b. cond {A = ℕ} b 1 0) (le-ltb x v l) in omega arith
-]
 
 -- the entries at the places
 abbrev entries : List ℕ → List ℕ → List ℕ
@@ -274,7 +266,7 @@ new_step τ w q W r Q s g word placed h out seat =
           absurd (omega (arith, g.same j m, seat.greater (at q j) l (omega (arith, placed j m, o.count))))
     ] in
     record {
-      choice = (omega (arith, seat.within, o.count), omega (arith, smaller_few (at W y) (entries W r), length-map r (at W), o.count));
+      choice = (omega (arith, seat.within, o.count), omega (arith, smaller_le (at W y) (entries W r), length-map r (at W), o.count));
       before = before;
       grows = (
         insert r s y,

@@ -1,13 +1,9 @@
 -- Lists of words gone through by the code: one word more, and all of them.
-use Rattle.std.proofs.Common.{◌≡◌, ℕ, suc, ◌+◌, ◌<◌, ◌≤◌, inl, inr, Result, Ok, Err, true, List, [], ◌∷◌, ◌++◌, length, get_or, take, refl, sym, ap, ◌∙◌, subst, arith, append_assoc, append-nil}
+use Rattle.std.proofs.Common.{◌≡◌, ℕ, suc, ◌+◌, ◌<◌, ◌≤◌, inl, inr, Result, Ok, Err, List, [], ◌∷◌, ◌++◌, length, get_or, take, refl, sym, ap, ◌∙◌, subst, arith, append_assoc, append-nil}
 use Rattle.std.specs.Result.{OnOk}
 use Rattle.std.proofs.Math.Seq.{take-suc}
 use Rattle.std.proofs.lemmas.List.{take_all}
-use Rattle.std.proofs.lemmas.List.Elements.{All-get_or}
-use Rattle.av_perm.specs.Word.{is_perm, ArePerms}
-use Rattle.av_perm.specs.Relations.{AreWords}
 use Rattle.av_perm.proofs.Membership.{In, In_at, In_append_cases, append_right, In_one}
-use Rattle.av_perm.proofs.PermWords.{perm_word}
 
 -- the element at an index is in the list
 pub item_In : (xs : List (List ℕ)) (i : ℕ) (x : List ℕ) → i < length xs → x ≡ get_or xs i x → In x xs
@@ -39,10 +35,6 @@ given_In {A} given left rest all x e f = subst (λ (l : List A). In x l) e (appe
 -- where none is left all are given
 pub given_all : {A : Type 0} (given left all : List A) → given ++ left ≡ all → left ≡ [] → given ≡ all
 given_all {A} given left all e f = sym (append-nil given) ∙ ap (λ (l : List A). given ++ l) (sym f) ∙ e
-
--- the words that a list of the code holds are words
-pub perms_words : (ws : List (List ℕ)) → ArePerms ws → AreWords ws
-perms_words ws g i h = perm_word (get_or ws i []) (All-get_or (λ v. is_perm v ≡ true) ws i [] h g)
 
 -- what is so on `Ok`, by what follows
 pub on_ok : {T E : Type 0} (A B : Type 0) (r : Result T E) → (A → B) → OnOk r A → OnOk r B

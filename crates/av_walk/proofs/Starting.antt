@@ -10,6 +10,7 @@ use Rattle.av_perm.specs.Class.{in_shortlex}
 use Rattle.av_perm.proofs.Membership.{Each, In_map, In_append_cases, In_flat_map, all_each}
 use Rattle.av_perm.proofs.ShortlexLists.{shortlex_In}
 use Rattle.av_perm.proofs.ListLaws.{get_In}
+use Rattle.av_perm.proofs.PermWords.{perms_words}
 use Rattle.av_sys.specs.Names.{IsMadeOfWords}
 use Rattle.av_sys.specs.declared.names.Name.{Name}
 use Rattle.av_sys.specs.declared.terms.Term.{Term}
@@ -23,7 +24,7 @@ use Rattle.av_split.specs.Marks.{box_of, free_mark}
 use Rattle.av_split.specs.Cells.{AreDemandsOf, known_at}
 use Rattle.av_split.specs.Walk.{AreRows}
 use Rattle.av_split.proofs.WordSplit.{Apt, demands_apt}
-use Rattle.av_split.proofs.Cutting.{free_rows, free_box, perms_words, some}
+use Rattle.av_split.proofs.Cutting.{free_rows, free_box, some}
 use Rattle.av_walk.specs.declared.path.Path.{Path}
 use Rattle.av_walk.specs.Walk.{Literal, Leaf, walk}
 use Rattle.av_walk.specs.Leaves.{name_of_equation, names_at, names_of_root, asks, child_literals, literals, leaves_of}

@@ -3,7 +3,7 @@ use Rattle.std.proofs.Common.{◌≡◌, ℕ, ◌+◌, ◌-◌, ◌≤◌, [], l
 use Rattle.av_perm.specs.declared.limits.TheConstants.{MAX_PATTERN_LENGTH}
 use Rattle.av_perm.proofs.Membership.{In, In_at, each_all, all_each}
 use Rattle.av_perm.proofs.ListLaws.{get_In}
-use Rattle.av_split.proofs.Cutting.{perms_words}
+use Rattle.av_perm.proofs.PermWords.{perms_words}
 use Rattle.av_perm.specs.Word.{ArePerms}
 use Rattle.av_sys.specs.declared.names.Name.{Name}
 use Rattle.av_sys.specs.declared.terms.Equation.{Equation}

@@ -2,11 +2,11 @@
 use Rattle.std.proofs.Common.{◌≡◌, ℕ, inl, inr, List, [], ◌∷◌, map, Some, Result, Ok, refl, sym, ap, subst, arith}
 use Rattle.av_perm.specs.declared.words.Memory.{Memory}
 use Rattle.av_perm.specs.Members.{In}
+use Rattle.av_perm.proofs.PermWords.{perms_words}
 use Rattle.av_sys.specs.declared.names.Name.{Name}
 use Rattle.av_sys.specs.declared.terms.Term.{Term}
 use Rattle.av_split.specs.Boxes.{Box}
 use Rattle.av_split.specs.Walk.{Gives}
-use Rattle.av_split.proofs.Cutting.{perms_words}
 use Rattle.av_split.proofs.WordSplit.{box_fine}
 use Rattle.av_build.specs.Drafts.{Draft, root_drafts}
 use Rattle.av_build.specs.Adding.{box_draft}

@@ -1,8 +1,8 @@
 -- The advice of all demands.
 use Rattle.av_split.specs.Gathering.{question_asked}
 use Rattle.av_split.proofs.AdviceEnds.{second_broken, all_known, all_next, may_ask}
-use Rattle.av_split.proofs.Cutting.{perms_words}
 use Rattle.av_split.proofs.advising.advise.Goals as goal
+use Rattle.av_perm.proofs.PermWords.{perms_words}
 
 pub advice_of-requires : goal.advice_of-requires
 advice_of-requires c =

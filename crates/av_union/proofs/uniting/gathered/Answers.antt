@@ -4,13 +4,13 @@ use Rattle.av_perm.specs.Relations.{Contains}
 use Rattle.av_perm.proofs.Membership.{In_at}
 use Rattle.av_perm.proofs.Containment.{contains_same}
 use Rattle.av_perm.proofs.ListLaws.{get_In}
-use Rattle.av_union.proofs.ListSteps.{perms_words}
+use Rattle.av_perm.proofs.PermWords.{perms_are_words}
 use Rattle.av_union.proofs.Kept.{union_none, reaches_more, reaches_all}
 use Rattle.av_union.proofs.uniting.gathered.Goals as goal
 
 pub returns-then-len-eq0 : goal.returns-then-len-eq0
 returns-then-len-eq0 c =
-    union_none c.args.first.now c.args.second.now c.new-kept.result.keys (perms_words c.args.first.now c.len-words.ensures.words) c.new-kept.ensures.empty
+    union_none c.args.first.now c.args.second.now c.new-kept.result.keys (perms_are_words c.args.first.now c.len-words.ensures.words) c.new-kept.ensures.empty
     (omega (arith, c.len.ensures.value, c.if-len-eq0.true))
 
 pub gather-requires-clause-holds : goal.gather-requires-clause-holds
@@ -29,10 +29,10 @@ gather-requires-clause-few c =
 pub loop-i-preserved : goal.loop-i-preserved
 loop-i-preserved c =
     reaches_more _ c.args.first.now c.args.second.now c.get.result.now c.of.result.word c.of.result.places.items c.loop-i.i c.loop-i.kept.keys c.gather.new.kept.keys
-    (perms_words c.args.first.now c.len-i-end.ensures.words) c.get.ensures c.of.ensures.word c.of.ensures.places (ap (take c.loop-i.i) c.as_slice.ensures)
+    (perms_are_words c.args.first.now c.len-i-end.ensures.words) c.get.ensures c.of.ensures.word c.of.ensures.places (ap (take c.loop-i.i) c.as_slice.ensures)
     c.loop-i.invariant c.in_ok-gather.ensures
 
 pub returns : goal.returns
 returns c =
-    reaches_all c.args.first.now c.args.second.now c.loop-i.kept.keys c.loop-i.i (perms_words c.args.first.now c.len-i-end.ensures.words)
+    reaches_all c.args.first.now c.args.second.now c.loop-i.kept.keys c.loop-i.i (perms_are_words c.args.first.now c.len-i-end.ensures.words)
     (omega (arith, c.loop-i-test.false, c.len-i-end.ensures.value)) c.loop-i.invariant

@@ -1,8 +1,9 @@
 -- The path leads to the box in which nothing is avoided or required.
 use Rattle.std.proofs.Common.{None, length, refl, sym, subst}
+use Rattle.av_perm.proofs.PermWords.{perms_words}
 use Rattle.av_split.specs.Boxes.{demands}
 use Rattle.av_split.specs.Cells.{AreDemandsOf}
-use Rattle.av_split.proofs.Cutting.{starts, perms_words}
+use Rattle.av_split.proofs.Cutting.{starts}
 use Rattle.av_split.proofs.splitting.Boxes.new.Goals as goal
 
 pub invariant_of-result : goal.invariant_of-result

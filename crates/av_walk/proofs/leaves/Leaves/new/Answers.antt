@@ -1,7 +1,7 @@
 -- The path leads to the box in which nothing is avoided or required.
 use Rattle.std.proofs.Common.{◌∙◌, map, replicate, ap}
+use Rattle.av_perm.proofs.PermWords.{perms_words}
 use Rattle.av_split.specs.Marks.{free_mark}
-use Rattle.av_split.proofs.Cutting.{perms_words}
 use Rattle.av_walk.proofs.Starting.{starts}
 use Rattle.av_walk.proofs.leaves.Leaves.new.Goals as goal
 
