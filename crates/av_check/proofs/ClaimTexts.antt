@@ -1,5 +1,5 @@
 -- The text of a claim is that claim.
-use Rattle.std.proofs.Common.{◌≡◌, inl, inr, ℕ, suc, ◌+◌, ◌-◌, ◌<◌, ◌≤◌, ◌≢◌, Bool, true, false, ◌&&◌, ◌==◌, List, [], ◌∷◌, ◌++◌, length, map, take, get_or, Option, Some, None, All, codes, nat_le, cond, refl, sym, ap, subst, ◌∙◌, append_assoc, append-nil, arith, true≢false, ne_eqb}
+use Rattle.std.proofs.Common.{◌≡◌, inl, inr, ℕ, suc, ◌+◌, ◌-◌, ◌≤◌, ◌≢◌, Bool, true, false, ◌&&◌, ◌==◌, List, [], ◌∷◌, ◌++◌, length, map, take, get_or, Option, Some, None, All, codes, nat_le, cond, refl, sym, ap, subst, ◌∙◌, append_assoc, append-nil, arith, true≢false, ne_eqb}
 use Rattle.std.specs.List.{list_all, slice_split, join_with_byte}
 use Rattle.std.specs.Str.Lines.{strip_carriage_return}
 use Rattle.std.proofs.lemmas.Bool.{and_parts}
@@ -13,22 +13,17 @@ use Rattle.av_perm.specs.Members.{In}
 use Rattle.av_sys.specs.declared.terms.Equation.{Equation}
 use Rattle.av_text.specs.declared.limits.TheConstants.{MAX_PATTERNS}
 use Rattle.av_text.specs.Lines.{script_lines, drop_empty_last, is_line_feed}
+use Rattle.av_text.proofs.Cuts.{kept_piece}
 use Rattle.av_print.specs.Text.{words_text}
 use Rattle.av_print.specs.Systems.{equation_text, equations_text, terms_count, system_text}
-use Rattle.av_print.proofs.Tokens.{pass_wider, pass_none, is_token_byte}
+use Rattle.av_print.proofs.Tokens.{pass_wider, pass_none, is_token_byte, pass_both}
 use Rattle.av_check.specs.declared.reading.announced.Counts.{Counts}
 use Rattle.av_check.specs.Claims.{HasText, BeginsWith, IsOptional, ArePatterns, TellsWords, TellsRequired, AreEquationLines}
 use Rattle.av_check.specs.ClaimLaws.{version_text, passed_text, required_text, text_of_claim, IsUnbroken, ClaimTextLaw}
 use Rattle.av_check.specs.Reading.{IsVersion, list_tokens, equation_tokens, counts_tokens, counts_line}
 use Rattle.av_check.specs.Verdicts.{words_or_none}
 use Rattle.av_check.proofs.Joins.{Pass}
-use Rattle.av_check.proofs.Terms.{pass_two}
 use Rattle.av_check.proofs.Tokens.{list_pass, equation_pass, counts_pass, equation_joined, counts_joined, words_joined}
-
--- a piece that others follow stays
-kept_piece : (p : List ℕ) (ps : List (List ℕ)) → 0 < length ps → drop_empty_last (p ∷ ps) ≡ p ∷ drop_empty_last ps
-kept_piece p [] h = absurd (omega arith)
-kept_piece p (q ∷ qs) h = refl
 
 -- bytes before a line feed are a line
 line_cut : (l rest : List ℕ) → All (λ c. is_line_feed c ≡ false) l → script_lines (l ++ 10 ∷ rest) ≡ strip_carriage_return l ∷ script_lines rest
@@ -81,7 +76,7 @@ joined_in_line : (ts : List (List ℕ)) → Pass is_token_byte ts → list_all i
 joined_in_line [] p = refl
 joined_in_line (t ∷ []) p = pass_wider is_token_byte is_line_byte token_in_line t (p t (inl refl))
 joined_in_line (t ∷ u ∷ ts) p =
-    pass_two is_line_byte t (32 ∷ join_with_byte 32 (u ∷ ts)) (pass_wider is_token_byte is_line_byte token_in_line t (p t (inl refl)))
+    pass_both is_line_byte t (32 ∷ join_with_byte 32 (u ∷ ts)) (pass_wider is_token_byte is_line_byte token_in_line t (p t (inl refl)))
     (joined_in_line (u ∷ ts) (λ s i. p s (inr i)))
 
 -- a line that is passed over keeps what it begins with

@@ -13,6 +13,7 @@ use Rattle.av_print.specs.Systems.{number_text, terms_text, name_text, equation_
 use Rattle.av_check.specs.Claims.{HasText, IsOptional, TellsWords, TellsCounts, AreEquationLines, AreFirstLines, AreSystemLines, AreAsDemanded}
 use Rattle.av_check.specs.Reading.{IsVersion, IsUnion, IsSimples, IsGap, IsEquationOf}
 use Rattle.av_check.proofs.Taking.{lines_append}
+use Rattle.av_check.proofs.FirstLines.{regroup}
 
 -- an equation of nothing, and its line
 empty : Equation
@@ -59,9 +60,6 @@ pub record CanEnd (terms : ℕ) (lines : List (List ℕ)) : Type 0 where
   pub system : System
   pub others : List (List ℕ)
   pub are : AreSystemLines system terms (lines ++ others)
-
-regroup : (x y z w : List (List ℕ)) → (x ++ (y ++ z)) ++ w ≡ x ++ (y ++ (z ++ w))
-regroup x y z w = append_assoc x (y ++ z) w ∙ ap (λ (l : List (List ℕ)). x ++ l) (append_assoc y z w)
 
 pub equations_can_end : (count terms : ℕ) (simples gap : List (List ℕ)) (counts : List ℕ) (es : List Equation) (taken : List (List ℕ)) → IsOptional IsSimples simples
     → IsOptional IsGap gap → TellsCounts count terms counts → AreEquationLines 0 es taken → length es ≤ count → ((e : Equation) → In e es → IsEquationOf count e)

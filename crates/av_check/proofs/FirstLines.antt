@@ -18,7 +18,7 @@ pub record AreOrdered (ws : List (List ℕ)) (needed : Option (List (List ℕ)))
   pub is_require : TellsRequired needed require
 
 -- four lists of lines before another
-regroup : (x y z w : List (List ℕ)) → (x ++ (y ++ z)) ++ w ≡ x ++ (y ++ (z ++ w))
+pub regroup : (x y z w : List (List ℕ)) → (x ++ (y ++ z)) ++ w ≡ x ++ (y ++ (z ++ w))
 regroup x y z w = append_assoc x (y ++ z) w ∙ ap (λ (l : List (List ℕ)). x ++ l) (append_assoc y z w)
 
 pub first_ordered : (ws : List (List ℕ)) (needed : Option (List (List ℕ))) (lines left : List (List ℕ)) → AreFirstLines ws needed lines → AreOrdered ws needed (lines ++ left) left

@@ -1,28 +1,17 @@
 -- The signs of the names of a term's children, by their numbers.
-use Rattle.std.proofs.Common.{◌≡◌, ℕ, ◌-◌, ◌≤◌, List, [], ◌∷◌, length, get_or, slice_get, take, drop, Bool, true, ◌&&◌, refl, sym, ap, ◌∙◌, subst, arith}
+use Rattle.std.proofs.Common.{◌≡◌, ℕ, ◌-◌, ◌≤◌, List, [], ◌∷◌, length, get_or, slice_get, take, drop, Bool, true, ◌&&◌, sym, ap, ◌∙◌, subst, arith}
 use Rattle.std.specs.List.{list_all}
 use Rattle.std.proofs.lemmas.List.{take_all}
 use Rattle.std.proofs.lemmas.List.Folds.{list_all-map}
 use Rattle.av_sys.specs.declared.names.Sign.{Sign}
-use Rattle.av_sys.specs.declared.names.Sign.TheVariants.{C, P, M}
+use Rattle.av_sys.specs.declared.names.Sign.TheVariants.{C}
 use Rattle.av_sys.specs.declared.names.Name.{Name}
 use Rattle.av_sys.specs.declared.terms.System.{System}
 use Rattle.av_sys.specs.contracts.names.SignPartialEq.TheImpl as signs
 use Rattle.av_build.specs.Canonical.{same_sign}
+use Rattle.av_build.proofs.NameTests.{sign_test}
 use Rattle.av_walk.specs.Leaves.{name_of_equation, names_at}
 use Rattle.av_check.specs.Verdicts.{are_signed}
-
--- the derived test of equal signs is that of the definitions
-sign_test : (s t : Sign) → (signs.eq-value).it s t ≡ same_sign s t
-sign_test C C = refl
-sign_test C P = refl
-sign_test C M = refl
-sign_test P C = refl
-sign_test P P = refl
-sign_test P M = refl
-sign_test M C = refl
-sign_test M P = refl
-sign_test M M = refl
 
 -- the sign of a child's name
 abbrev pub sign_of : System → ℕ → Sign

@@ -1,5 +1,5 @@
 -- The lines of systems are read in one way.
-use Rattle.std.proofs.Common.{◌≡◌, inl, inr, ℕ, suc, ◌+◌, ◌<◌, ◌^◌, List, [], ◌∷◌, ◌++◌, length, Option, Some, None, codes, refl, sym, ap, ap₂, subst, ◌∙◌, append_assoc, arith}
+use Rattle.std.proofs.Common.{◌≡◌, inl, inr, ℕ, suc, ◌+◌, ◌<◌, ◌^◌, List, [], ◌∷◌, ◌++◌, length, Option, Some, None, codes, refl, sym, ap, ap₂, subst, ◌∙◌, arith}
 use Rattle.av_perm.specs.Members.{In}
 use Rattle.av_sys.specs.declared.terms.Equation.{Equation}
 use Rattle.av_sys.specs.declared.terms.System.{System}
@@ -9,6 +9,7 @@ use Rattle.av_check.specs.Claims.{IsOptional, HasText, TellsWords, TellsCounts, 
 use Rattle.av_check.specs.Reading.{FirstIs, IsPassed, IsSimples, IsGap, IsEquationOf, IsWithoutRequired, TellsEquation, TakesCounts, TakesEquations, TakesSystem}
 use Rattle.av_check.proofs.LineKinds.{require_letter, simples_letter, gap_letter, counts_letter, counts_once, equation_once}
 use Rattle.av_check.proofs.Passing.{optional_passed, passed_once}
+use Rattle.av_check.proofs.FirstLines.{regroup}
 
 -- the lines of a system before others, in order, with what is passed
 pub record AreOrdered (count terms : ℕ) (all left : List (List ℕ)) : Type 0 where
@@ -39,9 +40,6 @@ ordered count terms all left simples gap counts e s g k = record {
     no_simples (l ∷ m ∷ ls) g h = g
 
 -- so are those of a system
-regroup : (x y z w : List (List ℕ)) → (x ++ (y ++ z)) ++ w ≡ x ++ (y ++ (z ++ w))
-regroup x y z w = append_assoc x (y ++ z) w ∙ ap (λ (l : List (List ℕ)). x ++ l) (append_assoc y z w)
-
 pub system_ordered : (S : System) (terms : ℕ) (lines left : List (List ℕ)) (f : AreSystemLines S terms lines) → AreOrdered (length S.equations) terms (lines ++ left) (f.equations ++ left)
 system_ordered S terms lines left f =
     ordered (length S.equations) terms (lines ++ left) (f.equations ++ left) f.simples f.gap f.counts

@@ -6,7 +6,6 @@ use Rattle.std.proofs.lemmas.Bool.{and_from, cases_lt}
 use Rattle.std.proofs.lemmas.Bool.Decides.{nat_tests}
 use Rattle.std.proofs.lemmas.List.{length-map, length-append, append_cancel_right}
 use Rattle.std.proofs.lemmas.Grind.{flat_map-append}
-use Rattle.std.proofs.lemmas.List.Folds.{list_all-append}
 use Rattle.std.proofs.lemmas.List.Splits.{length-slice_split}
 use Rattle.av_perm.proofs.Membership.{In_one, In_append_cases, In_map}
 use Rattle.av_sys.specs.declared.terms.Term.{Term}
@@ -16,16 +15,12 @@ use Rattle.av_print.specs.Text.{word_text, root_text}
 use Rattle.av_print.specs.Systems.{number_text, children_text, term_text}
 use Rattle.av_print.proofs.ReadWords.{short_form, long_form, plain_root, bracketed_root}
 use Rattle.av_print.proofs.ReadSystems.{system_root}
-use Rattle.av_print.proofs.Tokens.{pass_wider, pass_joined}
+use Rattle.av_print.proofs.Tokens.{pass_wider, pass_joined, pass_both}
 use Rattle.av_print.proofs.NumberTokens.{numeral_digits}
 use Rattle.av_check.specs.Reading.{AreNumbers, AreChildren, IsNode, root_part, children_part, AreTermsOf, AreSomeTerms, barred_tokens, terms_tokens}
 use Rattle.av_check.proofs.Joins.{Pass, join_items, cut_joined, pieces_joined, joined_pieces}
 use Rattle.av_check.proofs.ReadAs.{SameReadings}
 use Rattle.av_check.proofs.RootTexts.{root_pattern, root_once}
-
--- bytes of two texts that pass a test
-pub pass_two : (p : ℕ → Bool) (s t : List ℕ) → list_all p s ≡ true → list_all p t ≡ true → list_all p (s ++ t) ≡ true
-pass_two p s t e f = list_all-append p s t ∙ and_from (list_all p s) (list_all p t) e f
 
 -- the bytes of numbers, words and roots pass a test that digits pass, and the few other bytes
 pub number_pass : (p : ℕ → Bool) → ((c : ℕ) → is_ascii_digit c ≡ true → p c ≡ true) → p 69 ≡ true → (n : ℕ) → list_all p (number_text n) ≡ true
@@ -51,7 +46,7 @@ root_pass p digit comma opening closing w = by (cases_lt 9 (length w))
     by : (9 < length w) ⊎ (length w ≤ 9) → list_all p (root_text w) ≡ true
     by (inl long) =
         ap (list_all p) (bracketed_root w long)
-        ∙ and_from (p 40) (list_all p (word_text w ++ codes ")")) opening (pass_two p (word_text w) (codes ")") word (and_from (p 41) true closing refl))
+        ∙ and_from (p 40) (list_all p (word_text w ++ codes ")")) opening (pass_both p (word_text w) (codes ")") word (and_from (p 41) true closing refl))
     by (inr few) = ap (list_all p) (plain_root w few) ∙ word
 
 pub children_pass : (p : ℕ → Bool) → ((c : ℕ) → is_ascii_digit c ≡ true → p c ≡ true) → p 69 ≡ true → p 44 ≡ true → (cs : List ℕ) → list_all p (children_text cs) ≡ true
@@ -153,7 +148,7 @@ node_pass : (r cs : List ℕ) → Pass no_opening (root_text r ∷ (children_tex
 node_pass r cs t (inl e) = subst (λ (s : List ℕ). list_all no_opening s ≡ true) (sym e) (root_pass no_opening digit_no_opening refl refl refl r)
 node_pass r cs t (inr (inl e)) =
     subst (λ (s : List ℕ). list_all no_opening s ≡ true) (sym e)
-    (pass_two no_opening (children_text cs) (codes "]") (children_pass no_opening digit_no_opening refl refl cs) refl)
+    (pass_both no_opening (children_text cs) (codes "]") (children_pass no_opening digit_no_opening refl refl cs) refl)
 node_pass r cs t (inr (inr i)) = absurd i
 
 -- a token that isn't the point is a term's text where its pieces are those of a node

@@ -15,7 +15,7 @@ use Rattle.av_print.specs.Text.{word_text, words_text, root_text}
 use Rattle.av_print.specs.Systems.{number_text, children_text, term_text, terms_text, sign_text, name_text, equation_text, counts_text}
 use Rattle.av_print.proofs.UniqueReading.{begins_apart, bytes_apart, numeral_once}
 use Rattle.av_print.proofs.ReadWords.{word_begins}
-use Rattle.av_print.proofs.Tokens.{pass_wider, is_token_byte}
+use Rattle.av_print.proofs.Tokens.{pass_wider, is_token_byte, pass_both}
 use Rattle.av_print.proofs.NumberTokens.{numeral_digits, digit_in_token}
 use Rattle.av_check.specs.declared.reading.announced.Counts.{Counts}
 use Rattle.av_check.specs.Claims.{IsPattern, ArePatterns}
@@ -25,7 +25,7 @@ use Rattle.av_check.proofs.Lists.{list_some, list_joined, list_lacks}
 use Rattle.av_check.proofs.ReadAs.{SameReadings}
 use Rattle.av_check.proofs.RootTexts.{pattern_short}
 use Rattle.av_check.proofs.Spellings.{pattern_once}
-use Rattle.av_check.proofs.Terms.{number_pass, word_pass, root_pass, children_pass, pass_two}
+use Rattle.av_check.proofs.Terms.{number_pass, word_pass, root_pass, children_pass}
 
 -- tokens of two lists
 pass_append : (ts us : List (List ℕ)) → Pass is_token_byte ts → Pass is_token_byte us → Pass is_token_byte (ts ++ us)
@@ -54,8 +54,8 @@ term_pass : (t : Term) → list_all is_token_byte (term_text t) ≡ true
 unfolding term_text
 term_pass Point = refl
 term_pass (Node r cs) =
-    pass_two is_token_byte (root_text r) (codes "[" ++ (children_text cs ++ codes "]")) (root_pass is_token_byte digit_in_token refl refl refl r)
-    (pass_two is_token_byte (children_text cs) (codes "]") (children_pass is_token_byte digit_in_token refl refl cs) refl)
+    pass_both is_token_byte (root_text r) (codes "[" ++ (children_text cs ++ codes "]")) (root_pass is_token_byte digit_in_token refl refl refl r)
+    (pass_both is_token_byte (children_text cs) (codes "]") (children_pass is_token_byte digit_in_token refl refl cs) refl)
 
 barred_pass : (t : Term) (ts : List Term) → Pass is_token_byte (barred_tokens (t ∷ ts))
 barred_pass t [] = pass_cons (term_text t) [] (term_pass t) pass_nil

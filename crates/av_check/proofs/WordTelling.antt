@@ -19,8 +19,9 @@ use Rattle.av_split.specs.Split.{both, turned, all_of}
 use Rattle.av_split.specs.Boxes.{Question, Box, child_of, added, word_rules}
 use Rattle.av_split.specs.Marks.{once, side}
 use Rattle.av_split.specs.Laws.{IsTidy}
-use Rattle.av_split.proofs.GenericSplit.{Lawful, one_outside, both_out}
+use Rattle.av_split.proofs.GenericSplit.{Lawful, one_outside}
 use Rattle.av_split.proofs.WordSplit.{stands, added_known, Fine, Apt, same_child, changed_child, word_law, start_fine}
+use Rattle.av_split.proofs.Cutting.{outside_one}
 use Rattle.av_build.specs.Drafts.{name_of, child_names}
 use Rattle.av_walk.specs.Walk.{Literal, literal_known}
 use Rattle.av_walk.specs.Leaves.{asks, child_literals, literals}
@@ -31,11 +32,6 @@ use Rattle.av_check.proofs.GoodWalk.{Refuted, Telling}
 all_is_inside : {A : Type 0} (f : A → Known) (xs : List A) → Each (λ x. f x ≡ Inside) xs → all_of f xs ≡ Inside
 all_is_inside f [] h = refl
 all_is_inside f (x ∷ xs) h = ap (λ k. both k (all_of f xs)) (h x (inl refl)) ∙ all_is_inside f xs (λ y i. h y (inr i))
-
-all_is_outside : {A : Type 0} (f : A → Known) (xs : List A) (x : A) → In x xs → f x ≡ Outside → all_of f xs ≡ Outside
-all_is_outside f [] x i e = absurd i
-all_is_outside f (y ∷ xs) x (inl q) e = ap (λ k. both k (all_of f xs)) (ap f (sym q) ∙ e)
-all_is_outside f (y ∷ xs) x (inr i) e = ap (both (f y)) (all_is_outside f xs x i e) ∙ both_out (f y)
 
 -- the required words of a constraint, or the avoided ones
 abbrev pub words_of : Bool → Constraint → List (List ℕ)
@@ -171,7 +167,7 @@ module _ (k : ℕ) where
   term_stays w b q t f a o e =
       let r = one_outside (literal_known (word_rules.known b)) t e in
       let l : Literal Question = r.0 in
-      all_is_outside (literal_known (word_rules.known (word_rules.settle w b q))) t l r.1
+      outside_one (literal_known (word_rules.known (word_rules.settle w b q))) t l r.1
       (ap (turned l.required) (known_stays w b q l.question (word_rules.known b l.question) f a o (refuted_known l.required (word_rules.known b l.question) r.2) refl) ∙ r.2)
 
 -- a constraint avoids a word within the word, or requires one around it
@@ -235,7 +231,7 @@ module _ (k : ℕ) (first : Sign) where
       ∙ added_known (not w) c q.word m.0 (f.fine.fit q.child a.child) a.word o
       ∙ ap (λ t. once (not w) t (known_of c m.0)) (other_stands w q.word m.0 ∙ m.2)
       ∙ once_told w (known_of c m.0) (unless_open w c q.word m.0 a.word o m.2) in
-      all_is_outside (literal_known (word_rules.known (word_rules.settle (not w) b q))) (box_term first x) (asks w q.child m.0) (box_asked w first x q.child (omega arith) m.0 m.1)
+      outside_one (literal_known (word_rules.known (word_rules.settle (not w) b q))) (box_term first x) (asks w q.child m.0) (box_asked w first x q.child (omega arith) m.0 m.1)
       (ap (turned w) told ∙ other_side w)
 
   -- so the boxes and their terms are such

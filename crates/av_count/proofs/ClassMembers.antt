@@ -66,7 +66,7 @@ members_listed S basis required n w h =
     }
 
 -- there are as many trees as words
-count_members_of : (S : System) (n : ℕ) → count_of S n ≡ length (members S n)
+pub count_members_of : (S : System) (n : ℕ) → count_of S n ≡ length (members S n)
 unfolding members members_at count_of count_at
 count_members_of S n = sym (length-map (trees S 0 n) (value S 0))
 

@@ -172,7 +172,7 @@ no_rest f zero h = absurd (omega arith)
 no_rest f (suc n) h = refl
 
 -- so a last child has no other size than what is left
-no_ahead : (f g : ℕ → ℕ) (n m k : ℕ) → m + k ≤ n → ((j : ℕ) → 1 ≤ j → g j ≡ 0) → ahead f g n m k ≡ 0
+pub no_ahead : (f g : ℕ → ℕ) (n m k : ℕ) → m + k ≤ n → ((j : ℕ) → 1 ≤ j → g j ≡ 0) → ahead f g n m k ≡ 0
 no_ahead f g n m zero h e = refl
 no_ahead f g n m (suc k) h e = ap₂ (λ a b. f m * a + b) (e (n - m) (omega arith)) (no_ahead f g n (suc m) k (omega arith) e) ∙ omega arith
 

@@ -1,10 +1,10 @@
 -- What the type of trees keeps, and the word of a tree block by block.
-use Rattle.std.proofs.Common.{◌≡◌, ℕ, zero, suc, ◌+◌, ◌<◌, ◌≤◌, List, [], ◌∷◌, ◌++◌, map, length, take, get_or, slice_get, cond, ltb, Option, Some, None, sum_by, add-one, refl, sym, ap, ap₂, ◌∙◌, subst, arith, lt-ltb, le-ltb, length-append, append_assoc}
+use Rattle.std.proofs.Common.{◌≡◌, ℕ, zero, suc, ◌+◌, ◌<◌, ◌≤◌, List, [], ◌∷◌, ◌++◌, map, length, take, get_or, slice_get, cond, ltb, Option, Some, None, sum_by, add-one, refl, sym, ap, ap₂, ◌∙◌, subst, arith, lt-ltb, le-ltb, append_assoc}
 use Rattle.std.proofs.lemmas.List.{get_or-map, length-map}
 use Rattle.av_perm.specs.Word.{entry}
 use Rattle.av_perm.specs.Relations.{at, IsWord, block, raised, joined, points_below, inflate}
-use Rattle.av_perm.proofs.Inflations.{lengths, lengths_sum, length_inflate, inflation_word}
-use Rattle.av_perm.proofs.InflationSteps.{below_more, joined_more}
+use Rattle.av_perm.proofs.Inflations.{lengths_sum, length_inflate, inflation_word}
+use Rattle.av_perm.proofs.InflationSteps.{below_more, joined_more, joined_few}
 use Rattle.av_decomp.specs.RootTrees.{RootTrees, none, more, RootTree, as_trees, trees_of, nodes, all_of}
 use Rattle.av_decomp.specs.Trees.{root_length, value_by, values, value, FitsRoot, FitsNode, AreFormed, IsFormed, Keeps, IsCanonicalNode, AreCanonicalNodes, dec}
 use Rattle.av_decomp.proofs.DecompositionTrees.{AllWords, tree_law, count_as_trees, length_values, one_word, root_is_word}
@@ -71,15 +71,9 @@ lifted_all o π αs =
 lifted_length : (o : ℕ) (π : List ℕ) (αs : List (List ℕ)) (i : ℕ) → length (lifted o π αs i) ≡ length (block αs i)
 lifted_length o π αs i = length-map (block αs i) (λ (v : ℕ). v + (o + points_below (at π i) π αs))
 
--- the first lists and the next are no longer than all
-pieces_few : (F : ℕ → List ℕ) (αs : List (List ℕ)) (i : ℕ) → i < length αs → ((k : ℕ) → length (F k) ≡ length (block αs k)) → length (joined F i) + length (block αs i) ≤ lengths αs
-pieces_few F [] i h e = absurd (omega arith)
-pieces_few F (a ∷ αs) zero h e = omega arith
-pieces_few F (a ∷ αs) (suc i) h e = omega (arith, length-append (F 0) (joined (λ k. F (suc k)) i), e 0, pieces_few (λ k. F (suc k)) αs i (omega arith) (λ k. e (suc k)))
-
 -- so the next block finds room
 pub lifted_room : (o : ℕ) (π : List ℕ) (αs : List (List ℕ)) (i : ℕ) → i < length αs → length (joined (lifted o π αs) i) + length (block αs i) ≤ sum_by length αs
-lifted_room o π αs i h = omega (arith, lengths_sum αs, pieces_few (lifted o π αs) αs i h (λ k. lifted_length o π αs k))
+lifted_room o π αs i h = omega (arith, lengths_sum αs, joined_few (lifted o π αs) αs i h (λ k. lifted_length o π αs k))
 
 -- one more block at the end
 pub lifted_more : (o r : ℕ) (π : List ℕ) (αs : List (List ℕ)) (i : ℕ) (start old new a : List ℕ) → old ≡ start ++ joined (lifted o π αs) i → new ≡ old ++ raised (o + r) a

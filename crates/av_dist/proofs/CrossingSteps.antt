@@ -5,7 +5,7 @@ use Rattle.std.proofs.lemmas.List.{drop_all}
 use Rattle.av_dist.specs.Crossing.{lesser, crossing}
 
 -- the list from a place on
-from_place : (w : List ℕ) (j : ℕ) → j < length w → drop j w ≡ get_or w j 0 ∷ drop (j + 1) w
+pub from_place : (w : List ℕ) (j : ℕ) → j < length w → drop j w ≡ get_or w j 0 ∷ drop (j + 1) w
 from_place w j h = let e : suc j ≡ j + 1 = omega arith in drop-cons w j 0 h ∙ ap (λ i. get_or w j 0 ∷ drop i w) e
 
 pub lesser_step : (x : ℕ) (w ns : List ℕ) (j : ℕ) → j < length w → j < length ns

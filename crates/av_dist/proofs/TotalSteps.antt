@@ -1,6 +1,5 @@
 -- The totals of a node, one child more and at the last child.
 use Rattle.std.proofs.Common.{◌≡◌, ℕ, zero, suc, ◌+◌, ◌-◌, ◌<◌, ◌≤◌, List, [], ◌∷◌, ◌++◌, map, length, drop, refl, sym, ap, ap₂, ◌∙◌, arith, append-nil, flat_map, get_or}
-use Rattle.std.proofs.Math.Seq.{drop-cons}
 use Rattle.std.proofs.lemmas.List.{length-drop, drop_all, length_push}
 use Rattle.av_perm.specs.Lists.{counting}
 use Rattle.av_count.proofs.Choices.{flat_map_same}
@@ -9,6 +8,7 @@ use Rattle.av_dist.specs.Crossing.{added}
 use Rattle.av_dist.specs.Tables.{Stands}
 use Rattle.av_dist.specs.Totals.{sums, sums_with, totals, first_sums, totals_left, node_statistics}
 use Rattle.av_dist.proofs.HowOften.{pieces_more, pieces_none}
+use Rattle.av_dist.proofs.CrossingSteps.{from_place}
 
 -- with no child left there is a total for each sum exactly where no size is left
 end_totals : (add : List ℕ → ℕ) (V : ℕ → ℕ → List ℕ) (ms xs : List ℕ) → totals add V [] ms xs 0 ≡ map (λ x. add ms + x) xs
@@ -69,10 +69,6 @@ earlier_child add V c cs ms xs (suc n) h k =
     ∙ append-nil (flat_map piece (counting 1 n))
     ∙ ap (λ j. flat_map piece (counting 1 j)) (sym f)
 
--- the children from one on
-drop_next : (cs : List ℕ) (i : ℕ) → i < length cs → drop i cs ≡ get_or cs i 0 ∷ drop (i + 1) cs
-drop_next cs i h = let e : suc i ≡ i + 1 = omega arith in drop-cons cs i 0 h ∙ ap (λ j. get_or cs i 0 ∷ drop j cs) e
-
 -- the sums with one child more
 sums_with_more : (V : ℕ → ℕ → List ℕ) (xs cs ms : List ℕ) (m : ℕ) → length ms < length cs
     → sums_with V xs cs (ms ++ m ∷ []) ≡ sums (sums_with V xs cs ms) (V (get_or cs (length ms) 0) m)
@@ -98,7 +94,7 @@ pub left_last : (s : Stands) (root children sizes : List ℕ) (left : ℕ) → l
     ≡ map (λ z. added s.kind root (sizes ++ left ∷ []) + z) (sums (first_sums s children sizes) (child_statistics s children sizes left))
 left_last s root children sizes left e h =
     ap (λ cs. totals (added s.kind root) (statistics_at s.kind s.system) cs sizes (first_sums s children sizes) left)
-    (drop_next children (length sizes) (omega arith) ∙ ap (λ cs. child_of children sizes ∷ cs) (drop_all (length sizes + 1) children (omega arith)))
+    (from_place children (length sizes) (omega arith) ∙ ap (λ cs. child_of children sizes ∷ cs) (drop_all (length sizes + 1) children (omega arith)))
     ∙ last_child (added s.kind root) (statistics_at s.kind s.system) (child_of children sizes) sizes (first_sums s children sizes) left h
 
 -- the totals where the next child has size m
@@ -125,7 +121,7 @@ left_earlier s root children sizes left h l =
     let add = added s.kind root in
     let V = statistics_at s.kind s.system in
     let xs = first_sums s children sizes in
-    ap (λ cs. totals add V cs sizes xs left) (drop_next children (length sizes) (omega arith))
+    ap (λ cs. totals add V cs sizes xs left) (from_place children (length sizes) (omega arith))
     ∙ earlier_child add V (child_of children sizes) (drop (length sizes + 1) children) sizes xs left l (omega arith)
     ∙ flat_map_same _ _ (counting 1 (left - 1)) (λ m. left_with_is s root children sizes left m (omega arith))
 

@@ -1,25 +1,14 @@
 -- Embeddings of the first entries of a word.
 use Rattle.std.proofs.Common.{◌≡◌, ℕ, suc, ◌+◌, ◌-◌, ◌<◌, ◌≤◌, ◌≢◌, inl, inr, ◌↔◌, List, [], ◌∷◌, ◌++◌, length, take, take_all, take-take, refl, sym, ap, ◌∙◌, subst, arith}
 use Rattle.std.proofs.lemmas.Bool.{cases_lt}
-use Rattle.std.proofs.lemmas.List.{get_or-take, length-take-le, length-append, get_or_append_left, get_or-append-add}
+use Rattle.std.proofs.lemmas.List.{get_or-take, length-take-le}
 use Rattle.std.proofs.Math.Seq.{take-append_seam}
 use Rattle.av_perm.specs.Word.{entry}
 use Rattle.av_perm.specs.Relations.{at, IsOneToLength}
 use Rattle.av_perm.proofs.Occurrences.{entry_at}
+use Rattle.av_perm.proofs.ListLaws.{length_snoc, snoc_before, snoc_last}
 use Rattle.av_embed.specs.Embed.{IsEmbedding}
 use Rattle.av_embed.specs.Left.{IsBegun, StandsAt}
-
--- a list with one more number at its end
-pub length_snoc : (e : List ℕ) (c : ℕ) → length (e ++ c ∷ []) ≡ suc (length e)
-length_snoc e c = omega (arith, length-append e (c ∷ []))
-
--- its earlier entries stay
-snoc_before : (e : List ℕ) (c s : ℕ) → s < length e → at (e ++ c ∷ []) s ≡ at e s
-snoc_before e c s h = get_or_append_left e (c ∷ []) 0 s h
-
--- its last entry is the new one
-snoc_last : (e : List ℕ) (c s : ℕ) → s ≡ length e → at (e ++ c ∷ []) s ≡ c
-snoc_last e c s q = ap (at (e ++ c ∷ [])) (omega arith) ∙ get_or-append-add e (c ∷ []) 0 0
 
 -- the first places of an embedding embed as many entries
 pub front_begun : (π γ e : List ℕ) (j : ℕ) → IsEmbedding π γ e → j ≤ length e → IsEmbedding π (take j γ) (take j e)
@@ -171,12 +160,6 @@ whole_begun π γ e b h = subst (λ (w : List ℕ). IsEmbedding π w e) (take_al
 -- an embedding embeds all entries
 pub begun_whole : (π γ e : List ℕ) → IsEmbedding π γ e → IsBegun π γ e
 begun_whole π γ e m = subst (λ (w : List ℕ). IsEmbedding π w e) (sym (take_all (length e) γ (omega (arith, m.count)))) m
-
--- a list after a push and a pop
-pub popped : (e d f : List ℕ) (c : ℕ) → d ≡ e ++ c ∷ [] → f ≡ take (length d - 1) d → f ≡ e
-popped e d f c p q =
-    let n : length (e ++ c ∷ []) - 1 ≡ length e = omega (arith, length_snoc e c) in
-    q ∙ ap (λ (l : List ℕ). take (length l - 1) l) p ∙ rw n (take-append_seam e (c ∷ []))
 
 -- the search at the place of the last child, past that child
 pub stands_back : (π γ e : List ℕ) (c : ℕ) → IsBegun π γ (e ++ c ∷ []) → length e < length γ → StandsAt π γ e (c + 1)

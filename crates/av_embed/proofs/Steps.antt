@@ -3,11 +3,12 @@ use Rattle.std.proofs.Common.{◌≡◌, ℕ, suc, ◌+◌, ◌<◌, ◌≤◌, 
 use Rattle.std.specs.Ordering.{nat_cmp, is_gt}
 use Rattle.std.specs.Cmp.Lexicographic.{slice_cmp}
 use Rattle.std.proofs.lemmas.Cmp.{nat_list_cmp_total}
+use Rattle.av_perm.proofs.ListLaws.{length_snoc}
 use Rattle.av_embed.specs.Embed.{IsEmbedding, embeddings}
 use Rattle.av_embed.specs.Left.{embeddings_from, embeddings_after, IsBegun}
 use Rattle.av_embed.proofs.EmbeddingList.{embedding_from, embedding_to, embeddings_ascending}
 use Rattle.av_embed.proofs.Points.{from_point, point_skipped, point_deeper, point_back, point_next, point_first, point_past, filter_same, filter_all, filter_none, ascending_cut}
-use Rattle.av_embed.proofs.Begun.{length_snoc, front_begun, whole_begun}
+use Rattle.av_embed.proofs.Begun.{front_begun, whole_begun}
 
 -- points before which the same embeddings come
 same_from : (π γ p q : List ℕ) → ((e : List ℕ) → IsEmbedding π γ e → from_point p e ≡ from_point q e) → embeddings_from π γ p ≡ embeddings_from π γ q

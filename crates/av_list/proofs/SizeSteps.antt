@@ -4,7 +4,7 @@ use Rattle.std.proofs.lemmas.Grind.{flat_map-append}
 use Rattle.av_perm.specs.Lists.{counting, before_each, size_lists}
 use Rattle.av_count.specs.Choices.{ways, ahead}
 use Rattle.av_count.proofs.Choices.{append_nil}
-use Rattle.av_count.proofs.Members.{ahead_more, before_map}
+use Rattle.av_count.proofs.Members.{ahead_more, before_map, no_ahead}
 use Rattle.av_tree.proofs.Picks.{drop_here, drop_past, ways_past}
 use Rattle.std.proofs.lemmas.List.{take_more, take_all, length-drop}
 use Rattle.av_list.specs.Sizes.{sum_of, weight, sizes_after, weighed, Skips, Firsts, Raised, Begun}
@@ -275,11 +275,6 @@ ahead_none f g n least at low e none =
     nothing : (a : ℕ) → (0 < a → ⊥) → a ≡ 0
     nothing zero h = refl
     nothing (suc a) h = absurd (h (omega arith))
-
--- sizes that leave no list count nothing
-no_ahead : (f g : ℕ → ℕ) (n m k : ℕ) → m + k ≤ n → ((j : ℕ) → 1 ≤ j → g j ≡ 0) → ahead f g n m k ≡ 0
-no_ahead f g n m zero h e = refl
-no_ahead f g n m (suc k) h e = ap₂ (λ a b. f m * a + b) (e (n - m) (omega arith)) (no_ahead f g n (suc m) k (omega arith) e) ∙ omega arith
 
 -- the last child takes all that is left
 pub last_none : (f : ℕ → ℕ → ℕ) (cs : List ℕ) (i c n least : ℕ) → length cs ≤ i + 1 → least ≤ n → ahead (f c) (ways f (drop (i + 1) cs)) n least (n - least) ≡ 0

@@ -21,7 +21,7 @@ length_dues (c ∷ cs) [] e = refl
 length_dues (c ∷ cs) (n ∷ ns) e = ap suc (length_dues cs ns (omega arith))
 
 -- what stands in front is dropped
-drop_front : {X : Type 0} (xs ys : List X) (k : ℕ) → length xs ≡ k → drop k (xs ++ ys) ≡ ys
+pub drop_front : {X : Type 0} (xs ys : List X) (k : ℕ) → length xs ≡ k → drop k (xs ++ ys) ≡ ys
 drop_front [] ys zero e = refl
 drop_front [] ys (suc k) e = absurd (omega arith)
 drop_front (x ∷ xs) ys zero e = absurd (omega arith)

@@ -1,7 +1,6 @@
 -- Which places go on with those chosen.
 use Rattle.std.proofs.Common.{◌≡◌, ℕ, suc, ◌-◌, ◌<◌, ◌≤◌, ◌≢◌, ◌↔◌, ◌⊎◌, inl, inr, List, [], ◌∷◌, ◌++◌, length, take, true, refl, ◌∙◌, ap, arith}
-use Rattle.std.proofs.Math.ListN.{get_or-append}
-use Rattle.std.proofs.Math.Seq.{take-suc, get_or-append_seam}
+use Rattle.std.proofs.Math.Seq.{take-suc}
 use Rattle.std.proofs.lemmas.Bool.{cases_lt, cases_eq}
 use Rattle.std.proofs.lemmas.List.{map-append, length-append, length-map, get_or-map, get_or-take}
 use Rattle.av_perm.specs.Word.{entry, is_perm}
@@ -9,16 +8,10 @@ use Rattle.av_perm.specs.Contain.{at_places}
 use Rattle.av_perm.specs.Relations.{at, SameOrder}
 use Rattle.av_perm.proofs.Occurrences.{entry_at}
 use Rattle.av_perm.proofs.PermWords.{perm_word}
+use Rattle.av_perm.proofs.ListLaws.{snoc_before, snoc_last}
 use Rattle.av_match.specs.Search.{IsBegun}
 
 -- ---- one entry more at the end of two lists in the same order
-
--- the entries before the new one, and the new one
-at_front : (xs : List ℕ) (x s : ℕ) → s < length xs → at (xs ++ x ∷ []) s ≡ at xs s
-at_front xs x s h = get_or-append xs (x ∷ []) 0 s h
-
-at_last : (xs : List ℕ) (x s : ℕ) → s ≡ length xs → at (xs ++ x ∷ []) s ≡ x
-at_last xs x s e = ap (at (xs ++ x ∷ [])) e ∙ get_or-append_seam xs x [] 0
 
 -- `x` lies to `a` as `y` to `b`
 abbrev LieAlike : ℕ → ℕ → ℕ → ℕ → Type 0
@@ -36,11 +29,11 @@ order_more xs ys x y o f = record {
         → (at (xs ++ x ∷ []) s < at (xs ++ x ∷ []) t) ↔ (at (ys ++ y ∷ []) s < at (ys ++ y ∷ []) t)
     by s t (inl e) (inl f) hs ht = rw (e, f) (λ l. absurd (omega arith), λ l. absurd (omega arith))
     by s t (inl e) (inr ne) hs ht =
-        rw (at_last xs x s e, at_last ys y s (e ∙ o.count), at_front xs x t (omega arith), at_front ys y t (omega (arith, o.count))) (f t (omega arith)).1
+        rw (snoc_last xs x s e, snoc_last ys y s (e ∙ o.count), snoc_before xs x t (omega arith), snoc_before ys y t (omega (arith, o.count))) (f t (omega arith)).1
     by s t (inr ne) (inl e) hs ht =
-        rw (at_last xs x t e, at_last ys y t (e ∙ o.count), at_front xs x s (omega arith), at_front ys y s (omega (arith, o.count))) (f s (omega arith)).0
+        rw (snoc_last xs x t e, snoc_last ys y t (e ∙ o.count), snoc_before xs x s (omega arith), snoc_before ys y s (omega (arith, o.count))) (f s (omega arith)).0
     by s t (inr ne) (inr nf) hs ht =
-        rw (at_front xs x s (omega arith), at_front ys y s (omega (arith, o.count)), at_front xs x t (omega arith), at_front ys y t (omega (arith, o.count)))
+        rw (snoc_before xs x s (omega arith), snoc_before ys y s (omega (arith, o.count)), snoc_before xs x t (omega arith), snoc_before ys y t (omega (arith, o.count)))
         (o.alike s t (omega arith) (omega arith))
 
 -- and only there
@@ -49,8 +42,8 @@ more_order xs ys x y n o s h =
     let long = length-append xs (x ∷ []) in
     let a = o.alike s (length xs) (omega arith) (omega arith) in
     let b = o.alike (length xs) s (omega arith) (omega arith) in (
-      rw (at_front xs x s h, at_front ys y s (omega arith), at_last xs x (length xs) refl, at_last ys y (length xs) n) at a,
-      rw (at_front xs x s h, at_front ys y s (omega arith), at_last xs x (length xs) refl, at_last ys y (length xs) n) at b,
+      rw (snoc_before xs x s h, snoc_before ys y s (omega arith), snoc_last xs x (length xs) refl, snoc_last ys y (length xs) n) at a,
+      rw (snoc_before xs x s h, snoc_before ys y s (omega arith), snoc_last xs x (length xs) refl, snoc_last ys y (length xs) n) at b,
     )
 
 -- ---- the window
@@ -93,10 +86,10 @@ pattern_more p cs place lt =
 pub placed_more : (w p cs : List ℕ) (place : ℕ) → IsBegun w p cs → 1 ≤ place → place ≤ length w
     → (s : ℕ) → s < length (cs ++ place ∷ []) → (1 ≤ at (cs ++ place ∷ []) s) × (at (cs ++ place ∷ []) s ≤ length w)
 placed_more w p cs place begun one last s h = elim (cases_eq s (length cs)) [
-  | inl e ↦ rw (at_last cs place s e) (one, last)
+  | inl e ↦ rw (snoc_last cs place s e) (one, last)
   | inr ne ↦
       let lt : s < length cs = omega (arith, length-append cs (place ∷ [])) in
-      rw (at_front cs place s lt) (begun.placed s lt)
+      rw (snoc_before cs place s lt) (begun.placed s lt)
 ]
 
 -- a place goes on with those chosen exactly where its entry lies to each of theirs as the pattern's entries lie

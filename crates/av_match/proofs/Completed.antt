@@ -2,7 +2,6 @@
 use Rattle.std.proofs.Common.{◌≡◌, ℕ, zero, suc, ◌+◌, ◌-◌, ◌<◌, ◌≤◌, inl, inr, Bool, true, false, ◌||◌, cond, List, [], ◌∷◌, ◌++◌, map, length, take, find, Some, None, refl, sym, ◌∙◌, ap, ap₂, subst, arith, append_assoc, append-nil}
 use Rattle.std.specs.List.{list_any}
 use Rattle.std.specs.Option.{option_or, is_some}
-use Rattle.std.proofs.Math.Seq.{take-append_seam}
 use Rattle.std.proofs.lemmas.Bool.{cases_lt}
 use Rattle.std.proofs.lemmas.List.{take_all, map-append, length-append, get_or-append-add}
 use Rattle.std.proofs.lemmas.List.Folds.{find-append}
@@ -167,13 +166,6 @@ room_left w p cs from place rest lt goes =
     far : (s : ℕ) → s < length (place ∷ rest) → place + s ≤ at (place ∷ rest) s
     far zero h = omega arith
     far (suc s) h = omega (arith, far s (omega arith), goes.rising s (suc s) (omega arith) h)
-
--- a list after a push and a pop
-pub popped : (cs ds new : List ℕ) (x : ℕ) → ds ≡ cs ++ x ∷ [] → new ≡ take (length ds - 1) ds → new ≡ cs
-popped cs ds new x e f = f ∙ ap (λ (zs : List ℕ). take (length zs - 1) zs) e ∙ rw n (take-append_seam cs (x ∷ []))
-  where
-    n : length (cs ++ x ∷ []) - 1 ≡ length cs
-    n = omega (arith, length-append cs (x ∷ []))
 
 -- ---- at the start
 

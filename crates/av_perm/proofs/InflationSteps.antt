@@ -43,7 +43,7 @@ pub raise_few : (xs : List ℕ) (αs : List (List ℕ)) (i : ℕ) → i < length
 raise_few xs αs i hx ha = omega (arith, below_window xs αs i (at xs i) (suc (at xs i)) hx ha refl (omega arith), below_few (suc (at xs i)) xs αs)
 
 -- the first blocks and one more
-joined_few : (F : ℕ → List ℕ) (αs : List (List ℕ)) (i : ℕ) → i < length αs → ((k : ℕ) → length (F k) ≡ length (block αs k)) → length (joined F i) + length (block αs i) ≤ lengths αs
+pub joined_few : (F : ℕ → List ℕ) (αs : List (List ℕ)) (i : ℕ) → i < length αs → ((k : ℕ) → length (F k) ≡ length (block αs k)) → length (joined F i) + length (block αs i) ≤ lengths αs
 joined_few F [] i h e = absurd (omega arith)
 joined_few F (a ∷ αs) zero h e = omega arith
 joined_few F (a ∷ αs) (suc i) h e =

@@ -1,11 +1,13 @@
--- Laws of lists that the crates above share: of what stands at an index, of lists that are empty, that begin with another, and that
--- are made of each element of another.
-use Rattle.std.proofs.Common.{◌≡◌, ℕ, zero, suc, ◌≤◌, ◌<◌, inl, inr, List, [], ◌∷◌, ◌++◌, map, length, flat_map, true, slice_get, Some, None, refl, sym, ap, ap₂, ◌∙◌, subst, arith, append_assoc, append-nil}
+-- Laws of lists that the crates above share: of what stands at an index, of lists that are empty, that begin with another, that
+-- are made of each element of another, or that have one more number at the end.
+use Rattle.std.proofs.Common.{◌≡◌, ℕ, zero, suc, ◌≤◌, ◌<◌, inl, inr, List, [], ◌∷◌, ◌++◌, map, length, flat_map, true, slice_get, Some, None, refl, sym, ap, ap₂, ◌∙◌, subst, arith, append_assoc, append-nil, ◌-◌, take}
 use Rattle.std.proofs.lemmas.Bool.{cases_lt}
-use Rattle.std.proofs.lemmas.List.{map-append}
+use Rattle.std.proofs.lemmas.List.{map-append, length-append, get_or_append_left, get_or-append-add}
 use Rattle.std.proofs.lemmas.Option.{slice_get_within, get_or_from_slice_get}
+use Rattle.std.proofs.Math.Seq.{take-append_seam}
 use Rattle.av_perm.specs.Members.{Once}
 use Rattle.av_perm.specs.Lists.{Extends, is_nil}
+use Rattle.av_perm.specs.Relations.{at}
 use Rattle.av_perm.proofs.Membership.{In, Each, In_at, append_left}
 
 -- a list begins with itself
@@ -65,3 +67,21 @@ flat_map_each f g (x ∷ xs) h = ap₂ (λ a b. a ++ b) (h x (inl refl)) (flat_m
 pub map_flat_map : {X Y Z : Type 0} (h : Y → Z) (g : X → List Y) (xs : List X) → map h (flat_map g xs) ≡ flat_map (λ x. map h (g x)) xs
 map_flat_map h g [] = refl
 map_flat_map h g (x ∷ xs) = map-append h (g x) (flat_map g xs) ∙ ap (λ z. map h (g x) ++ z) (map_flat_map h g xs)
+
+-- a list with one more number at its end
+pub length_snoc : (e : List ℕ) (c : ℕ) → length (e ++ c ∷ []) ≡ suc (length e)
+length_snoc e c = omega (arith, length-append e (c ∷ []))
+
+-- its earlier entries stay
+pub snoc_before : (e : List ℕ) (c s : ℕ) → s < length e → at (e ++ c ∷ []) s ≡ at e s
+snoc_before e c s h = get_or_append_left e (c ∷ []) 0 s h
+
+-- its last entry is the new one
+pub snoc_last : (e : List ℕ) (c s : ℕ) → s ≡ length e → at (e ++ c ∷ []) s ≡ c
+snoc_last e c s q = ap (at (e ++ c ∷ [])) (omega arith) ∙ get_or-append-add e (c ∷ []) 0 0
+
+-- a list after a push and a pop
+pub popped : (e d f : List ℕ) (c : ℕ) → d ≡ e ++ c ∷ [] → f ≡ take (length d - 1) d → f ≡ e
+popped e d f c p q =
+    let n : length (e ++ c ∷ []) - 1 ≡ length e = omega (arith, length_snoc e c) in
+    q ∙ ap (λ (l : List ℕ). take (length l - 1) l) p ∙ rw n (take-append_seam e (c ∷ []))

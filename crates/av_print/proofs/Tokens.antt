@@ -24,7 +24,7 @@ pass_none p q apart (c ∷ t) e =
     All-cons (λ d. q d ≡ false) c t (apart c b.0) (pass_none p q apart t b.1)
 
 -- the bytes of two texts
-pass_both : (p : ℕ → Bool) (s t : List ℕ) → list_all p s ≡ true → list_all p t ≡ true → list_all p (s ++ t) ≡ true
+pub pass_both : (p : ℕ → Bool) (s t : List ℕ) → list_all p s ≡ true → list_all p t ≡ true → list_all p (s ++ t) ≡ true
 pass_both p s t e f = list_all-append p s t ∙ and_from (list_all p s) (list_all p t) e f
 
 -- and those of joined texts

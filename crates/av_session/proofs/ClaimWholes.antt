@@ -1,8 +1,7 @@
 -- The bytes that were taken are the claim, or have the fault, that all the bytes of the source are or have.
 use Rattle.std.proofs.Common.{◌≡◌, ℕ, ◌<◌, ◌≤◌, ◌⊎◌, inl, inr, List, [], ◌++◌, length, Option, Some, None, IfSome, Result, Ok, Err, append-nil, length-append, refl, sym, ap, ◌∙◌, subst, arith}
 use Rattle.std.proofs.lemmas.Bool.{cases_lt}
-use Rattle.std.proofs.KnownBytes.{Appends-nil}
-use Rattle.av_print.specs.Wrote.{AppendsPart}
+use Rattle.av_print.proofs.WaitingTexts.{part_none}
 use Rattle.av_text.specs.Read.{Fault}
 use Rattle.av_check.specs.declared.claim.Claim.{Claim}
 use Rattle.av_check.specs.declared.limits.TheConstants.{MAX_CLAIM_BYTES}
@@ -105,17 +104,13 @@ memory_fits_told words (Some bytes) = λ told p. by (options words) told
     by None told = tt
     by (Some o) told = (free_told o told).0
 
--- nothing was written, which is a part of any text
-part_nothing : (held : Option (List ℕ)) (text : List ℕ) → AppendsPart held held text
-part_nothing held text = record { part = []; rest = text; cut = refl; grows = Appends-nil held }
-
 pub memory_holds_told : (words : List (List ℕ)) (old held : Option (List ℕ)) → IfSome old (λ bytes. HoldsTold status.Memory held held words bytes)
 memory_holds_told words None held = tt
-memory_holds_told words (Some bytes) held = λ told p. part_nothing held (told_due words told)
+memory_holds_told words (Some bytes) held = λ told p. part_none held (told_due words told)
 
 pub memory_holds_check : (o : Options) (old held : Option (List ℕ)) → IfSome old (λ bytes. HoldsCheck status.Memory held held o bytes)
 memory_holds_check o None held = tt
-memory_holds_check o (Some bytes) held = λ told p. part_nothing held (told_text o told)
+memory_holds_check o (Some bytes) held = λ told p. part_none held (told_text o told)
 
 -- no status but Done and Memory is left
 pub check_complete_by : (s : Status) (left : Option (List ℕ)) (words : List (List ℕ)) (R W : Type 0) → (s ≡ status.Words → options words ≡ None) → (s ≡ status.ReadFault → R) → (s ≡ status.WriteFault → W)

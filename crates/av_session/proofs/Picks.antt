@@ -1,13 +1,14 @@
 -- The members that are picked, each with its rank, and the bars that say how many members have each value of a statistic.
-use Rattle.std.proofs.Common.{◌≡◌, ℕ, zero, suc, ◌+◌, ◌-◌, ◌^◌, ◌<◌, ◌≤◌, inl, inr, List, [], ◌∷◌, length, map, take, filter, slice_get, Bool, true, false, cond, nat_eq, Some, None, refl, sym, ap, ◌∙◌, subst, arith, eq-eqb, eqb-true}
+use Rattle.std.proofs.Common.{◌≡◌, ℕ, zero, suc, ◌+◌, ◌-◌, ◌^◌, ◌<◌, ◌≤◌, inl, inr, List, [], ◌∷◌, length, map, take, filter, slice_get, nat_eq, Some, None, refl, sym, ap, ◌∙◌, subst, arith, eq-eqb, eqb-true}
 use Rattle.std.proofs.lemmas.List.{length-map, take_all}
 use Rattle.std.specs.Ordering.{nat_cmp}
-use Rattle.av_perm.specs.Members.{In, Once, Ascending, IsListOf}
+use Rattle.av_perm.specs.Members.{In, Ascending, IsListOf}
 use Rattle.av_perm.specs.Relations.{InClassWithAt}
 use Rattle.av_perm.specs.Stat.{statistic_of}
 use Rattle.av_perm.specs.declared.StatKind.{StatKind}
 use Rattle.av_perm.proofs.Ascending.{ascending_filter, nat_cmp_less}
 use Rattle.av_perm.proofs.Membership.{In_filter, filter_In, In_map}
+use Rattle.av_perm.proofs.NoRepeats.{once_filter}
 use Rattle.av_list.specs.Items.{ranked, items_from}
 use Rattle.av_count.proofs.Members.{map_map}
 use Rattle.av_bars.specs.declared.bars.Bar.{Bar}
@@ -65,15 +66,6 @@ are_picked t v ws = record {
         filter_In (λ row. nat_eq (statistic_of t row.1) v) (items_from 0 ws) row (taken_from (2 ^ 128 - 0) ws 0 row (omega arith) (omega (arith, p.0)) (ap (slice_get ws) same ∙ p.1)) (eq-eqb (statistic_of t row.1) v p.2),
   );
 }
-
--- a filter keeps elements single
-once_filter : {A : Type 0} (p : A → Bool) (xs : List A) → Once xs → Once (filter p xs)
-once_filter p [] o = tt
-once_filter {A} p (x ∷ xs) o = by (p x) (once_filter p xs o.1)
-  where
-    by : (b : Bool) → Once (filter p xs) → Once (cond b (x ∷ filter p xs) (filter p xs))
-    by true more = (λ i. o.0 (In_filter p xs x i).0, more)
-    by false more = more
 
 -- how many of the members have a value
 is_count : (basis required ws : List (List ℕ)) (t : StatKind) (n v : ℕ) → IsListOf (InClassWithAt basis required n) ws → IsCountOf basis required t n v (how_many t ws v)

@@ -1,7 +1,6 @@
 -- The draws of a seed, one after another: their lines, and what a statistic says of them.
 use Rattle.std.proofs.Common.{◌≡◌, ℕ, suc, ◌+◌, ◌-◌, ◌^◌, ◌<◌, ◌≤◌, min, max, List, [], ◌∷◌, ◌++◌, length, map, flat_map, fold, sum, get_or, slice_get, nat_lt, Bool, true, false, Option, Some, None, refl, sym, ap, ◌∙◌, subst, arith, add-one}
 use Rattle.std.specs.Io.KnownBytes.{Appends}
-use Rattle.std.proofs.lemmas.List.{length-map}
 use Rattle.std.proofs.lemmas.List.Sums.{sum_by-cons}
 use Rattle.std.proofs.lemmas.Option.{slice_get-get_or}
 use Rattle.av_perm.specs.Lists.{counting}
@@ -9,9 +8,10 @@ use Rattle.av_perm.specs.Stat.{statistic_of}
 use Rattle.av_perm.specs.declared.StatKind.{StatKind}
 use Rattle.av_sys.specs.declared.terms.System.{System}
 use Rattle.av_sys.specs.Trees.{value}
-use Rattle.av_sys.specs.TreeLists.{trees, members, members_at, count_of, count_at}
+use Rattle.av_sys.specs.TreeLists.{members, count_of}
 use Rattle.av_count.specs.declared.count.Count.TheVariants.{Known, Over}
 use Rattle.av_count.specs.Counts.{capped}
+use Rattle.av_count.proofs.ClassMembers.{count_members_of}
 use Rattle.av_print.specs.Text.{ranked_text}
 use Rattle.av_print.specs.Wrote.{AppendsPart}
 use Rattle.av_print.proofs.Written.{AppendsUpTo, up_to_part_of, up_to_next, up_to_end}
@@ -29,12 +29,8 @@ known_is n c e = by (nat_lt n (2 ^ 128)) refl e
     by true h f = let g : Known n ≡ Known c = rw h at f in cc
     by false h f = absurd (let g : Over ≡ Known c = rw h at f in cc)
 
-pub count_members : (S : System) (n : ℕ) → count_of S n ≡ length (members S n)
-unfolding members members_at count_of count_at
-count_members S n = sym (length-map (trees S 0 n) (value S 0))
-
 pub known_members : (S : System) (n c : ℕ) → capped (count_of S n) ≡ Known c → c ≡ length (members S n)
-known_members S n c e = sym (known_is (count_of S n) c e) ∙ count_members S n
+known_members S n c e = sym (known_is (count_of S n) c e) ∙ count_members_of S n
 
 -- the word at a place that is there
 pub word_there : (ws : List (List ℕ)) (r : ℕ) (w : List ℕ) → r < length ws → slice_get ws r ≡ Some w → w ≡ get_or ws r []

@@ -1,11 +1,12 @@
 -- The bytes that were taken say what all the bytes of the source say.
 use Rattle.std.proofs.Common.{◌≡◌, ℕ, ◌<◌, ◌≤◌, ◌⊎◌, inl, inr, List, [], ◌++◌, length, Option, Some, None, IfSome, Result, Ok, Err, append-nil, length-append, refl, sym, ap, ◌∙◌, subst, arith}
-use Rattle.std.proofs.lemmas.Bool.{cases_lt, lt-ltb}
+use Rattle.std.proofs.lemmas.Bool.{cases_lt}
 use Rattle.std.specs.Io.KnownBytes.{IsAtEnd}
 use Rattle.av_text.specs.declared.limits.TheConstants.{MAX_SCRIPT_BYTES}
 use Rattle.av_text.specs.declared.script.Script.{Script}
 use Rattle.av_text.specs.declared.kind.Kind.TheVariants.{TooLong}
 use Rattle.av_text.specs.Read.{read, Fault}
+use Rattle.av_text.proofs.Reading.{read_long}
 use Rattle.av_session.specs.declared.reading.TheConstants.{MOST_READ}
 use Rattle.av_session.specs.declared.options.Options.{Options}
 use Rattle.av_session.specs.declared.status.Status.{Status}
@@ -17,20 +18,16 @@ use Rattle.av_session.specs.Status.{HoldsText, FitsText, FitsRead, FitsScript}
 use Rattle.av_session.specs.Options.{options}
 use Rattle.av_session.specs.Runs.{demo_asked, script_by, script_bytes, most_by, most_read, due, FitsRun, FitsRun_of, ReadsWhole, IsComplete}
 
-too_long : (bytes : List ℕ) → MAX_SCRIPT_BYTES < length bytes → read bytes ≡ Err (record { line = 0; kind = TooLong })
-unfolding read
-too_long bytes h = rw (lt-ltb MAX_SCRIPT_BYTES (length bytes) h) refl
-
 read_same : (all taken left : List ℕ) → all ≡ taken ++ left → length taken ≤ MOST_READ → (length taken < MOST_READ → left ≡ []) → read taken ≡ read all
 read_same all taken left e most end = elim (cases_lt (length taken) MOST_READ) [
   | inl lt ↦ ap read (sym (append-nil taken) ∙ ap (λ t. taken ++ t) (sym (end lt)) ∙ sym e)
-  | inr ge ↦ too_long taken (omega arith) ∙ sym (too_long all (omega (arith, ap length e, length-append taken left)))
+  | inr ge ↦ read_long taken (omega arith) ∙ sym (read_long all (omega (arith, ap length e, length-append taken left)))
 ]
 
 -- a script is read to the end of its source
 script_end : (taken : List ℕ) (new : Option (List ℕ)) (script : Script) → read taken ≡ Ok script → (length taken < MOST_READ → IsAtEnd new) → IsAtEnd new
 script_end taken new script e end = elim (cases_lt MAX_SCRIPT_BYTES (length taken)) [
-  | inl long ↦ absurd (let f : Err (record { line = 0; kind = TooLong }) ≡ Ok script = sym (too_long taken long) ∙ e in cc)
+  | inl long ↦ absurd (let f : Err (record { line = 0; kind = TooLong }) ≡ Ok script = sym (read_long taken long) ∙ e in cc)
   | inr short ↦ end (omega arith)
 ]
 

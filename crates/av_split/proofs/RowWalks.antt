@@ -2,8 +2,6 @@
 use Rattle.std.proofs.Common.{◌≡◌, ℕ, zero, suc, ◌+◌, ◌<◌, inl, inr, List, [], ◌∷◌, ◌++◌, length, get_or, set, map, filter, take, drop, cond, ◌-◌, ◌≤◌, Bool, true, false, Some, refl, sym, ap, ap₂, ◌∙◌, subst, arith, add-one, drop-cons, take-suc, append-nil}
 use Rattle.std.specs.List.{flat_map, list_any, position, IsDistinct, AllByRecursion}
 use Rattle.std.specs.BTreeSet.{insert_key}
-use Rattle.std.specs.Ordering.{match_ordering}
-use Rattle.std.specs.declared.cmp.Ordering.{Ordering}
 use Rattle.std.proofs.lemmas.Grind.{flat_map-append}
 use Rattle.std.proofs.lemmas.List.Quantifiers.{position-Some}
 use Rattle.std.proofs.lemmas.Bool.{cases_eq}
@@ -12,8 +10,9 @@ use Rattle.av_perm.specs.Members.{In, Ascending}
 use Rattle.av_perm.specs.Word.{shortlex}
 use Rattle.av_perm.specs.Lists.{same}
 use Rattle.av_perm.specs.WordOrder.{shortlex_total, word_same}
-use Rattle.std.specs.declared.cmp.Ordering.TheVariants.{Less, Equal, Greater}
-use Rattle.av_perm.specs.Class.{in_shortlex, insert_word, insert_by}
+use Rattle.std.specs.declared.cmp.Ordering.TheVariants.{Less}
+use Rattle.av_match.proofs.Gathered.{insert_same}
+use Rattle.av_perm.specs.Class.{in_shortlex, insert_word}
 use Rattle.av_perm.proofs.Membership.{In_at, In_filter, filter_In, In_map, map_In, In_append_cases, In_one}
 use Rattle.av_perm.proofs.Tests.{any_to, same_refl}
 use Rattle.av_perm.proofs.Ascending.{ascending_same}
@@ -88,16 +87,6 @@ flat_next f xs i n x d old new h e q o more =
     ∙ ap (λ y. flat_map f (take i xs ++ y ∷ [])) (sym e)
     ∙ ap (flat_map f) (sym (take-suc xs i d h))
     ∙ ap (λ m. flat_map f (take m xs)) (sym (add-one i) ∙ sym q)
-
--- a set in shortlex order takes a word as the list does
-pub insert_same : (w : List ℕ) (ws : List (List ℕ)) → insert_key shortlex ws w ≡ insert_word w ws
-insert_same w [] = refl
-insert_same w (v ∷ ws) = by (shortlex w v) (insert_same w ws)
-  where
-    by : (o : Ordering) → insert_key shortlex ws w ≡ insert_word w ws → match_ordering o (w ∷ v ∷ ws) (v ∷ ws) (v ∷ insert_key shortlex ws w) ≡ insert_by o w v ws (insert_word w ws)
-    by Less e = refl
-    by Equal e = refl
-    by Greater e = ap (λ (zs : List (List ℕ)). v ∷ zs) e
 
 -- one more word in the set, from the last on
 pub sorted_next : (ws old new : List (List ℕ)) (i : ℕ) (w : List ℕ) → 0 < i → i - 1 < length ws → w ≡ get_or ws (i - 1) w → old ≡ in_shortlex (drop i ws) → new ≡ insert_key shortlex old w

@@ -13,9 +13,9 @@ pub rest_all : (n : ℕ) (bs : List ℕ) → take (length bs - n) (drop n bs) �
 rest_all n bs = take_all (length bs - n) (drop n bs) (omega (arith, length-drop n bs))
 
 -- a piece that others follow stays
-drop_cons : (p : List ℕ) (ps : List (List ℕ)) → 0 < length ps → drop_empty_last (p ∷ ps) ≡ p ∷ drop_empty_last ps
-drop_cons p [] h = absurd (omega arith)
-drop_cons p (q ∷ qs) h = refl
+pub kept_piece : (p : List ℕ) (ps : List (List ℕ)) → 0 < length ps → drop_empty_last (p ∷ ps) ≡ p ∷ drop_empty_last ps
+kept_piece p [] h = absurd (omega arith)
+kept_piece p (q ∷ qs) h = refl
 
 -- no bytes have no line
 pub lines_none : script_lines [] ≡ []
@@ -35,7 +35,7 @@ lines_cut bs i e =
     let lt : position_or_len is_line_feed bs < length bs = ltb-true _ _ c.0 in
     let cut = rw c.1 at (slice_split_first is_line_feed bs 0 lt) in
     let more : 0 < length (slice_split is_line_feed (drop (i + 1) bs)) = omega (arith, length-slice_split is_line_feed (drop (i + 1) bs)) in
-    ap (λ ps. map strip_carriage_return (drop_empty_last ps)) cut ∙ ap (map strip_carriage_return) (drop_cons _ _ more)
+    ap (λ ps. map strip_carriage_return (drop_empty_last ps)) cut ∙ ap (map strip_carriage_return) (kept_piece _ _ more)
 
 -- there is no first line feed
 no_cut : (b : Bool) (n : ℕ) → cond b (Some n) None ≡ None → b ≡ false
@@ -87,7 +87,7 @@ pieces_few (x ∷ xs) = by (is_line_feed x) (pieces_few xs)
         → length (drop_empty_last (cond t ([] ∷ slice_split is_line_feed xs) (onto_first x (slice_split is_line_feed xs)))) ≤ suc (length xs)
     by true ih =
         let more : 0 < length (slice_split is_line_feed xs) = omega (arith, length-slice_split is_line_feed xs) in
-        omega (arith, ap length (drop_cons [] (slice_split is_line_feed xs) more))
+        omega (arith, ap length (kept_piece [] (slice_split is_line_feed xs) more))
     by false ih = longer x (slice_split is_line_feed xs) (length xs) ih
 
 -- there are no more lines than bytes

@@ -11,6 +11,7 @@ use Rattle.av_perm.proofs.Tests.{all_from, all_to}
 use Rattle.av_perm.proofs.Orders.{order_from, order_to}
 use Rattle.av_perm.proofs.Pigeons.{pigeons_by}
 use Rattle.av_perm.proofs.Containment.{contains_equal, all_places}
+use Rattle.av_perm.proofs.ListLaws.{length_snoc}
 use Rattle.av_union.specs.declared.choices.Choice.{Choice}
 use Rattle.av_union.specs.declared.choices.Choice.TheVariants.{Shared, New}
 use Rattle.av_union.specs.Union.{IsCovered}
@@ -19,7 +20,7 @@ use Rattle.av_union.specs.Growth.{ArePlacesOf, GrowsTo, AreBefore, places_after,
 use Rattle.av_union.specs.Laws.{OverlaysLaw}
 use Rattle.av_union.proofs.Places.{skip, skip_low, skip_up, skip_few, old_or_new}
 use Rattle.av_union.proofs.InsertedEntries.{inserted_length, inserted_alike}
-use Rattle.av_union.proofs.RisingPlaces.{length_more, rises_more}
+use Rattle.av_union.proofs.RisingPlaces.{rises_more}
 use Rattle.av_union.proofs.ChoiceLists.{In_choices, choices_In}
 use Rattle.av_union.proofs.WordsAfter.{word_after_word, places_placed}
 use Rattle.av_union.proofs.Growth.{begun_occurs, start_grows, IsStep, next_step}
@@ -147,7 +148,7 @@ grows_In (suc n) τ w q W g placed e c =
     let d = k.0 in
     let u = word_after w d in
     let p = places_after q d in
-    let rec = grows_In n τ u p W (word_after_word w d g k.1.choice) (places_placed w q d placed k.1.choice) (omega (arith, length_more q (place_of d), e)) k.1.grows in
+    let rec = grows_In n τ u p W (word_after_word w d g k.1.choice) (places_placed w q d placed k.1.choice) (omega (arith, length_snoc q (place_of d), e)) k.1.grows in
     let here : In W (grown_by n τ w q d) = subst (λ b. In W (cond b (grown n τ u p) [])) (sym (step_may τ w q W d placed k.1)) rec in
     flat_map_In (grown_by n τ w q) (choices (length w)) d W (choices_In (length w) d k.1.choice) here
 
@@ -241,7 +242,7 @@ In_covered (suc n) σ τ w q W p e i =
     let u = word_after w c in
     let r = places_after q c in
     elim (cases_Bool (may_grow τ w q c)) [
-      | inl y ↦ In_covered n σ τ u r W (part_grows σ τ w q c p h y) (omega (arith, length_more q (place_of c), e)) (subst (λ b. In W (cond b (grown n τ u r) [])) y a.2)
+      | inl y ↦ In_covered n σ τ u r W (part_grows σ τ w q c p h y) (omega (arith, length_snoc q (place_of c), e)) (subst (λ b. In W (cond b (grown n τ u r) [])) y a.2)
       | inr z ↦ absurd (subst (λ b. In W (cond b (grown n τ u r) [])) z a.2)
     ]
 

@@ -8,6 +8,7 @@ use Rattle.av_perm.specs.Relations.{at, IsWord, IsOccurrence, Contains, SameOrde
 use Rattle.av_perm.proofs.Membership.{In, In_at, at_In}
 use Rattle.av_perm.proofs.Patterns.{pattern_order, pattern_same, pattern_at, word_pattern, smaller_mono, smaller_more, smaller_le}
 use Rattle.av_perm.proofs.Orders.{order_join}
+use Rattle.av_perm.proofs.ListLaws.{snoc_before, snoc_last, length_snoc}
 use Rattle.av_union.specs.declared.choices.Choice.{Choice}
 use Rattle.av_union.specs.declared.choices.Choice.TheVariants.{Shared, New}
 use Rattle.av_union.specs.Union.{IsCovered}
@@ -15,7 +16,7 @@ use Rattle.av_union.specs.Choices.{inserted, IsChoice, word_after}
 use Rattle.av_union.specs.Growth.{ArePlacesOf, Grows, GrowsTo, AreBefore, places_after}
 use Rattle.av_union.proofs.Places.{skip, skip_low, skip_high, skip_up, length_insert, at_insert_new, at_insert_old, old_or_new, map-insert, In_insert_new, In_insert_old, insert_order}
 use Rattle.av_union.proofs.WithoutPlaces.{In_decided}
-use Rattle.av_union.proofs.RisingPlaces.{at_front, at_last, length_more, rises_back, IsSeat, has_seat}
+use Rattle.av_union.proofs.RisingPlaces.{rises_back, IsSeat, has_seat}
 use Rattle.av_union.proofs.InsertedEntries.{doubled, spread, doubled_at, doubled_length, inserted_length}
 
 -- ---- what a partial overlay holds
@@ -217,7 +218,7 @@ fewer : (τ q Q r : List ℕ) (s x : ℕ) → In (at Q (length q)) r
 fewer τ q Q r s x i (inl m) = inl m
 fewer τ q Q r s x i (inr m) = elim (cases_eq m.0 (length q)) [
   | inl f ↦ inl (subst (λ z. In z r) (ap (at Q) (sym f) ∙ m.3) i)
-  | inr ne ↦ inr (m.0, omega (arith, m.1, length_more q s, ne), m.2, m.3)
+  | inr ne ↦ inr (m.0, omega (arith, m.1, length_snoc q s, ne), m.2, m.3)
 ]
 
 -- the pattern's next entry stands at an entry that is there
@@ -226,7 +227,7 @@ shared_step : (τ w q W r Q : List ℕ) (s : ℕ) → Grows τ w q W r Q → Are
 shared_step τ w q W r Q s g placed h l e =
     let k = length q in
     let o = g.inner in
-    let n = length_more q s in
+    let n = length_snoc q s in
     record {
       choice = omega (arith, o.count);
       before = λ j m. rises_back r (at q j) s o.rising (omega (arith, placed j m, o.count)) l
@@ -241,8 +242,8 @@ shared_step τ w q W r Q s g placed h l e =
             inner = o;
             second = g.second;
             same = λ j m. elim (cases_eq j k) [
-              | inl f ↦ ap (at r) (at_last q s j f) ∙ e ∙ ap (at Q) (sym f)
-              | inr ne ↦ let lt : j < k = omega (arith, ne) in ap (at r) (at_front q s j lt) ∙ g.same j lt
+              | inl f ↦ ap (at r) (snoc_last q s j f) ∙ e ∙ ap (at Q) (sym f)
+              | inr ne ↦ let lt : j < k = omega (arith, ne) in ap (at r) (snoc_before q s j lt) ∙ g.same j lt
             ];
             all = λ x m. fewer τ q Q r s x (subst (λ z. In z r) e (In_at r s 0 l)) (g.all x m);
           },
@@ -257,7 +258,7 @@ new_step τ w q W r Q s g word placed h out seat =
     let k = length q in
     let y = at Q k in
     let o = g.inner in
-    let n = length_more q s in
+    let n = length_snoc q s in
     let inside : y < length W = g.second.placed k (omega (arith, g.second.count)) in
     let before : (j : ℕ) → j < k → at q j < s = λ j m. elim (cases_lt (at q j) s) [
       | inl l ↦ l
@@ -278,10 +279,10 @@ new_step τ w q W r Q s g word placed h out seat =
             inner = new_inner W w r y s g.word word o inside out seat;
             second = g.second;
             same = λ j m. elim (cases_eq j k) [
-              | inl f ↦ ap (at (insert r s y)) (at_last q s j f) ∙ at_insert_new r s y seat.within ∙ ap (at Q) (sym f)
+              | inl f ↦ ap (at (insert r s y)) (snoc_last q s j f) ∙ at_insert_new r s y seat.within ∙ ap (at Q) (sym f)
               | inr ne ↦
                   let lt : j < k = omega (arith, ne) in
-                  ap (at (insert r s y)) (at_front q s j lt ∙ sym (skip_low s (at q j) (before j lt))) ∙ at_insert_old r s y (at q j) seat.within ∙ g.same j lt
+                  ap (at (insert r s y)) (snoc_before q s j lt ∙ sym (skip_low s (at q j) (before j lt))) ∙ at_insert_old r s y (at q j) seat.within ∙ g.same j lt
             ];
             all = λ x m. fewer τ q Q (insert r s y) s x (In_insert_new r s y) (elim (g.all x m) [ inl i ↦ inl (In_insert_old r s y x i) | inr i ↦ inr i ]);
           },

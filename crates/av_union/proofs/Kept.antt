@@ -13,7 +13,7 @@ use Rattle.av_perm.specs.Relations.{IsWord, AreWords, Contains}
 use Rattle.av_perm.proofs.Membership.{In, In_append_cases, In_one}
 use Rattle.av_perm.proofs.Containment.{contains_trans}
 use Rattle.av_perm.proofs.ShortlexLists.{insert_In, insert_new, insert_old, insert_ascending}
-use Rattle.av_perm.proofs.ListLaws.{get_In}
+use Rattle.av_perm.proofs.ListLaws.{get_In, length_snoc}
 use Rattle.av_match.proofs.Gathered.{insert_same}
 use Rattle.av_union.specs.declared.choices.Choice.{Choice}
 use Rattle.av_union.specs.Union.{ContainsSome, InBoth, IsMinimalInBoth, union}
@@ -22,7 +22,6 @@ use Rattle.av_union.specs.Growth.{ArePlacesOf, GrowsTo, places_after, begins_at}
 use Rattle.av_union.specs.Gather.{GrowsNothing, AreMinimal, Adds, Keeps, HasGrown, HasGrownBy, Gathers, GathersBy}
 use Rattle.av_union.proofs.Covers.{minimal_covered_by}
 use Rattle.av_union.proofs.Unions.{some_from, some_to, is_union}
-use Rattle.av_union.proofs.RisingPlaces.{length_more}
 use Rattle.av_union.proofs.WordsAfter.{word_after_contains, word_after_few}
 use Rattle.av_union.proofs.Growth.{begun_occurs, grown_whole, start_grows, next_step}
 use Rattle.av_union.proofs.GrownWords.{before_to, begins_occurs}
@@ -129,7 +128,7 @@ still_holds F w u c h e f =
 pub still_few : (n : ℕ) (w q u p : List ℕ) (c : Choice) → IsChoice (length w) c → u ≡ word_after w c → p ≡ places_after q c → length w ≤ n + length q
     → (length u ≤ n + length p) × (length p ≡ suc (length q))
 still_few n w q u p c h e f few =
-    let long : length p ≡ suc (length q) = ap length f ∙ length_more q (place_of c) in
+    let long : length p ≡ suc (length q) = ap length f ∙ length_snoc q (place_of c) in
     (omega (arith, ap length e, word_after_few w c h), long)
 
 -- ---- all words of the first list

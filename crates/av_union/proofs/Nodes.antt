@@ -5,6 +5,7 @@ use Rattle.std.proofs.lemmas.List.{length-append}
 use Rattle.std.proofs.lemmas.List.Sums.{sum_by-cons}
 use Rattle.av_perm.specs.Members.{In}
 use Rattle.av_perm.specs.Relations.{IsWord}
+use Rattle.av_perm.proofs.ListLaws.{length_snoc}
 use Rattle.av_union.specs.declared.limits.TheConstants.{MAX_OVERLAY_LENGTH}
 use Rattle.av_union.specs.declared.choices.Choice.{Choice}
 use Rattle.av_union.specs.declared.partials.Partial.{Partial}
@@ -14,7 +15,6 @@ use Rattle.av_union.specs.Choices.{IsChoice, place_of, word_after, choices}
 use Rattle.av_union.specs.Growth.{places_after, may_grow, grown, grown_by, overlays}
 use Rattle.av_union.specs.Partials.{Takes}
 use Rattle.av_union.specs.Nodes.{grown_among, lacking, node_left, nodes_left, IsNode, AreNodes, cost, node_cost, nodes_cost, TakesChoice}
-use Rattle.av_union.proofs.RisingPlaces.{length_more}
 use Rattle.av_union.proofs.ChoiceLists.{In_choices}
 use Rattle.av_union.proofs.WordsAfter.{word_after_few}
 use Rattle.av_union.proofs.GrownWords.{begins_from, may_from, overlays_law}
@@ -136,7 +136,7 @@ grown_node τ d x z c n h g =
     let q = x.partial.places.items in
     let k = may_from τ w q c g.0 in
     let short = (begins_from (word_after w c) (places_after q c) τ k.1).0 in
-    let long = length_more q (place_of c) in
+    let long = length_snoc q (place_of c) in
     record {
       places = ap length g.1.places ∙ long ∙ ap suc n.places;
       within = omega (arith, n.places);
@@ -168,7 +168,7 @@ takes_two τ x y z c old mid new a n h r g im is =
     let p = places_after q c in
     let m = length τ - suc (length old) in
     let e : lacking τ x ≡ suc m = omega (arith, n.places) in
-    let ez : lacking τ z ≡ m = omega (arith, ap length g.1.places, length_more q (place_of c), n.places) in
+    let ez : lacking τ z ≡ m = omega (arith, ap length g.1.places, length_snoc q (place_of c), n.places) in
     let top = grown_left m τ u p z.partial.word z.partial.places.items z.choices (lacking τ z) ez g.1.word g.1.places g.2 in
     let top_cost = grown_cost m τ u p z.partial.word z.partial.places.items z.choices (lacking τ z) ez g.1.word g.1.places g.2 in
     let left : node_left τ x ≡ node_left τ z ++ node_left τ y = rest_left τ m x y c r e

@@ -1,23 +1,9 @@
 -- Lists of places: one more at the end, lists that rise, and where a number that isn't in a rising list stands among its places.
-use Rattle.std.proofs.Common.{◌≡◌, ℕ, zero, suc, ◌<◌, ◌≤◌, ◌≢◌, inl, inr, List, [], ◌∷◌, ◌++◌, length, ap, ◌∙◌, subst, arith}
-use Rattle.std.proofs.Math.ListN.{get_or-append}
-use Rattle.std.proofs.Math.Seq.{get_or-append_seam}
+use Rattle.std.proofs.Common.{◌≡◌, ℕ, zero, suc, ◌<◌, ◌≤◌, ◌≢◌, inl, inr, List, [], ◌∷◌, ◌++◌, length, ap, subst, arith}
 use Rattle.std.proofs.lemmas.Bool.{cases_lt, cases_eq}
-use Rattle.std.proofs.lemmas.List.{length-append}
 use Rattle.av_perm.specs.Relations.{at}
 use Rattle.av_perm.proofs.Membership.{In, In_at}
-
--- with one number more at the end the others stay where they are
-pub at_front : (xs : List ℕ) (x j : ℕ) → j < length xs → at (xs ++ x ∷ []) j ≡ at xs j
-at_front xs x j h = get_or-append xs (x ∷ []) 0 j h
-
--- and that one comes last
-pub at_last : (xs : List ℕ) (x j : ℕ) → j ≡ length xs → at (xs ++ x ∷ []) j ≡ x
-at_last xs x j e = ap (at (xs ++ x ∷ [])) e ∙ get_or-append_seam xs x [] 0
-
--- the list is longer by one
-pub length_more : (xs : List ℕ) (x : ℕ) → length (xs ++ x ∷ []) ≡ suc (length xs)
-length_more xs x = omega (arith, length-append xs (x ∷ []))
+use Rattle.av_perm.proofs.ListLaws.{length_snoc, snoc_before, snoc_last}
 
 -- each number is less than each later one
 abbrev pub Rises : List ℕ → Type 0
@@ -43,10 +29,10 @@ rises_once r a b up ha hb e = elim (cases_lt a b) [
 -- one more number that is greater than all
 pub rises_more : (q : List ℕ) (s : ℕ) → Rises q → ((j : ℕ) → j < length q → at q j < s) → Rises (q ++ s ∷ [])
 rises_more q s up before a b l h = elim (cases_eq b (length q)) [
-  | inl e ↦ omega (arith, at_last q s b e, at_front q s a (omega arith), before a (omega arith))
+  | inl e ↦ omega (arith, snoc_last q s b e, snoc_before q s a (omega arith), before a (omega arith))
   | inr ne ↦
-      let m : b < length q = omega (arith, length_more q s, ne) in
-      omega (arith, at_front q s b m, at_front q s a (omega arith), up a b l m)
+      let m : b < length q = omega (arith, length_snoc q s, ne) in
+      omega (arith, snoc_before q s b m, snoc_before q s a (omega arith), up a b l m)
 ]
 
 -- of the first n numbers of the list those before place s are less than y and the others greater

@@ -3,12 +3,12 @@ use Rattle.std.proofs.Common.{ℕ, suc, ◌<◌, ◌≤◌, inl, inr, List, leng
 use Rattle.std.proofs.lemmas.Bool.{cases_eq}
 use Rattle.av_perm.specs.Relations.{IsWord, Contains}
 use Rattle.av_perm.proofs.Containment.{contains_same}
+use Rattle.av_perm.proofs.ListLaws.{snoc_before, snoc_last, length_snoc}
 use Rattle.av_union.specs.declared.choices.Choice.{Choice}
 use Rattle.av_union.specs.declared.choices.Choice.TheVariants.{Shared, New}
 use Rattle.av_union.specs.Choices.{IsChoice, place_of, word_after}
 use Rattle.av_union.specs.Growth.{ArePlacesOf, places_after}
 use Rattle.av_union.proofs.InsertedEntries.{inserted_word, inserted_length, inserted_contains}
-use Rattle.av_union.proofs.RisingPlaces.{at_front, at_last, length_more}
 
 -- it is a word
 pub word_after_word : (w : List ℕ) (c : Choice) → IsWord w → IsChoice (length w) c → IsWord (word_after w c)
@@ -43,8 +43,8 @@ place_after w (New s v) h = omega (arith, inserted_length w s v h.0, h.0)
 -- so the places with it are places of that word
 pub places_placed : (w q : List ℕ) (c : Choice) → ArePlacesOf w q → IsChoice (length w) c → ArePlacesOf (word_after w c) (places_after q c)
 places_placed w q c placed h j l = elim (cases_eq j (length q)) [
-  | inl e ↦ omega (arith, at_last q (place_of c) j e, place_after w c h)
+  | inl e ↦ omega (arith, snoc_last q (place_of c) j e, place_after w c h)
   | inr ne ↦
-      let m : j < length q = omega (arith, length_more q (place_of c), ne) in
-      omega (arith, at_front q (place_of c) j m, placed j m, word_after_more w c h)
+      let m : j < length q = omega (arith, length_snoc q (place_of c), ne) in
+      omega (arith, snoc_before q (place_of c) j m, placed j m, word_after_more w c h)
 ]

@@ -1,7 +1,8 @@
 -- A child that may go completes the map, or leads to the first embedding or to none.
 use Rattle.std.proofs.Common.{◌≡◌, ℕ, ◌+◌, List, [], ◌∷◌, ◌++◌, length, true≢false, refl, sym, ◌∙◌, ap, subst, arith}
+use Rattle.av_perm.proofs.ListLaws.{length_snoc, popped}
 use Rattle.av_embed.specs.Left.{embeddings_from, embeddings_after}
-use Rattle.av_embed.proofs.Begun.{length_snoc, popped, same_begun}
+use Rattle.av_embed.proofs.Begun.{same_begun}
 use Rattle.av_embed.proofs.Steps.{found_here, found_deeper, missed_deeper, child_skipped}
 use Rattle.av_embed.proofs.embeddings.+complete.Goals as goal
 use Rattle.av_embed.proofs.embeddings.+complete.Goals.{then-len-places-via-then-len-places, then-len-places-via-else-len-places+then-complete, then-may_go+else-len-places+else-complete, else-may_go}

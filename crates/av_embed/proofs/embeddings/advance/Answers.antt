@@ -1,7 +1,8 @@
 -- Where nothing is found the search goes back to the place before; at the first place nothing is left.
 use Rattle.std.proofs.Common.{◌≡◌, ℕ, ◌+◌, ◌<◌, List, [], ◌∷◌, ◌++◌, length, true≢false, refl, sym, ◌∙◌, ap, subst, arith}
+use Rattle.av_perm.proofs.ListLaws.{length_snoc}
 use Rattle.av_embed.specs.Left.{StandsAt, embeddings_from}
-use Rattle.av_embed.proofs.Begun.{length_snoc, stands_back}
+use Rattle.av_embed.proofs.Begun.{stands_back}
 use Rattle.av_embed.proofs.Steps.{child_back, embeddings_none}
 use Rattle.av_embed.proofs.embeddings.advance.Goals as goal
 

@@ -1,8 +1,9 @@
 -- The first occurrence goes on with the loop's place, or else with a later one.
 use Rattle.std.proofs.Common.{◌≡◌, ℕ, ◌+◌, ◌<◌, ◌≤◌, List, [], ◌∷◌, ◌++◌, length, arith, sym, ◌∙◌, ap, subst, Some, None, rules, refl}
+use Rattle.av_perm.proofs.ListLaws.{popped}
 use Rattle.av_match.specs.Search.{GoesOn, IsBegun, IsWhole, completed, places_from}
 use Rattle.av_match.proofs.Begun.{in_window}
-use Rattle.av_match.proofs.Completed.{completed_whole, found_here, found_later, found_least, found_most, found_not, popped}
+use Rattle.av_match.proofs.Completed.{completed_whole, found_here, found_later, found_least, found_most, found_not}
 use Rattle.av_match.proofs.search.+extend.Goals as goal
 use Rattle.av_match.proofs.search.+extend.Goals.{then-window-x+then-x-window+else-extend, else-window-x, else-window-x-via-then-window-x+else-x-window, else-window-x-via-else-window-x}
 

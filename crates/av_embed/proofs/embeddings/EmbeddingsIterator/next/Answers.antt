@@ -1,9 +1,10 @@
 -- An embedding that is found is the first that is left; the search goes on with the next child at its last place.
 use Rattle.std.proofs.Common.{◌≡◌, ℕ, ◌+◌, List, [], ◌∷◌, ◌++◌, length, Option, refl, sym, ◌∙◌, ap, ap₂, subst, arith, rules}
 use Rattle.std.specs.Option.{option_to_list}
+use Rattle.av_perm.proofs.ListLaws.{length_snoc}
 use Rattle.av_embed.specs.Embed.{IsEmbedding}
 use Rattle.av_embed.specs.Left.{embeddings_from, embeddings_after}
-use Rattle.av_embed.proofs.Begun.{length_snoc, begun_whole, stands_back}
+use Rattle.av_embed.proofs.Begun.{begun_whole, stands_back}
 use Rattle.av_embed.proofs.Steps.{embedding_next, embeddings_none}
 use Rattle.av_embed.proofs.embeddings.EmbeddingsIterator.next.Goals as goal
 

@@ -1,15 +1,9 @@
 -- What is due below the vertex stands first, so it is last in the vector.
-use Rattle.std.proofs.Common.{◌≡◌, ◌-◌, ◌≤◌, ℕ, zero, suc, List, [], ◌∷◌, ◌++◌, length, take, drop, reverse, arith, sym, ◌∙◌, ap, refl}
+use Rattle.std.proofs.Common.{◌≡◌, ◌-◌, ◌≤◌, ℕ, zero, suc, List, [], ◌∷◌, length, take, drop, reverse, arith, sym, ◌∙◌, ap, refl}
 use Rattle.std.proofs.lemmas.List.{reverse-append, length-reverse, take-append-drop, length-drop}
 use Rattle.av_list.specs.Progress.{Progress}
 use Rattle.av_list.proofs.derivation.Derivation.pop_vertex.Goals as goal
-
--- what stands in front is dropped
-drop_front : {X : Type 0} (xs ys : List X) (k : ℕ) → length xs ≡ k → drop k (xs ++ ys) ≡ ys
-drop_front [] ys zero e = refl
-drop_front [] ys (suc k) e = absurd (omega arith)
-drop_front (x ∷ xs) ys zero e = absurd (omega arith)
-drop_front (x ∷ xs) ys (suc k) e = drop_front xs ys k (omega arith)
+use Rattle.av_list.proofs.Steps.{drop_front}
 
 -- all is dropped
 drop_all : {X : Type 0} (xs : List X) (k : ℕ) → length xs ≤ k → drop k xs ≡ []
