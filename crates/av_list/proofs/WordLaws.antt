@@ -18,7 +18,7 @@ use Rattle.av_count.proofs.NodeForms.{node_form}
 use Rattle.av_tree.proofs.TreeWords.{tree_word, length_values}
 use Rattle.av_list.specs.declared.vertex.Vertex.{Vertex}
 use Rattle.av_list.specs.Remaining.{first_size, in_turn, preorders, preorder, listed}
-use Rattle.av_list.specs.Words.{lower, raises, own, raised_on, written, word_of}
+use Rattle.av_list.specs.Words.{sizes_below, raises, own, raised_on, written, word_of}
 use Rattle.av_list.proofs.Shapes.{preorders_sizes}
 
 -- each word raised by a number of its own
@@ -28,7 +28,7 @@ raise_all (p ∷ ps) [] = []
 raise_all (p ∷ ps) (b ∷ bs) = map (λ x. x + p) b ++ raise_all ps bs
 
 -- what lies below an entry, by the sizes
-below_lower : (p : ℕ) (root : List ℕ) (bs : List (List ℕ)) → points_below p root bs ≡ lower p root (map length bs)
+below_lower : (p : ℕ) (root : List ℕ) (bs : List (List ℕ)) → points_below p root bs ≡ sizes_below p root (map length bs)
 below_lower p [] bs = refl
 below_lower p (q ∷ root) [] = refl
 below_lower p (q ∷ root) (b ∷ bs) = ap (λ z. cond {A = ℕ} (nat_lt q p) (length b) 0 + z) (below_lower p root bs)
@@ -44,7 +44,7 @@ raised_blocks : (r : ℕ) (root : List ℕ) (all : List (List ℕ)) (parts : Lis
 raised_blocks r root all [] bs e = refl
 raised_blocks r root all (p ∷ parts) [] e = absurd (omega arith)
 raised_blocks r root all (p ∷ parts) (b ∷ bs) e =
-    ap₂ (λ a c. a ++ c) (raise_twice r (points_below p root all) (r + lower p root (map length all)) b (ap (λ z. r + z) (sym (below_lower p root all)))) (raised_blocks r root all parts bs (omega arith))
+    ap₂ (λ a c. a ++ c) (raise_twice r (points_below p root all) (r + sizes_below p root (map length all)) b (ap (λ z. r + z) (sym (below_lower p root all)))) (raised_blocks r root all parts bs (omega arith))
     ∙ sym (map-append (λ x. x + r) (raised (points_below p root all) b) (joined (λ i. raised (points_below (get_or parts i 0) root all) (block bs i)) (length parts)))
 
 -- a number for each child

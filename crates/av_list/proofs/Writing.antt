@@ -15,40 +15,40 @@ use Rattle.av_list.specs.declared.vertex.Due.{Due}
 use Rattle.av_list.specs.Sizes.{sum_of}
 use Rattle.av_list.specs.Vertices.{dues, dues_below, due}
 use Rattle.av_list.specs.Remaining.{whole as whole_size}
-use Rattle.av_list.specs.Words.{lower, raises, own, raised_on, written, word_of}
+use Rattle.av_list.specs.Words.{sizes_below, raises, own, raised_on, written, word_of}
 use Rattle.av_list.specs.Derivations.{Sound, due_sizes, Completes, Fit, Writing}
 use Rattle.av_list.proofs.Rooms.{below_load, sound_size, due_sizes_append}
 use Rattle.av_list.proofs.WordLaws.{length_raises}
 
--- lower sizes and the size itself are no more than all sizes
-pub lower_own : (p : ℕ) (root ns : List ℕ) → length ns ≡ length root → lower p root ns ≤ sum_of ns
+-- the sizes below an entry and its own are no more than all sizes
+pub lower_own : (p : ℕ) (root ns : List ℕ) → length ns ≡ length root → sizes_below p root ns ≤ sum_of ns
 lower_own p [] [] e = omega arith
 lower_own p [] (n ∷ ns) e = absurd (omega arith)
 lower_own p (q ∷ root) [] e = absurd (omega arith)
 lower_own p (q ∷ root) (n ∷ ns) e = by (nat_lt q p) (lower_own p root ns (omega arith))
   where
-    by : (b : Bool) → lower p root ns ≤ sum_of ns → cond {A = ℕ} b n 0 + lower p root ns ≤ n + sum_of ns
+    by : (b : Bool) → sizes_below p root ns ≤ sum_of ns → cond {A = ℕ} b n 0 + sizes_below p root ns ≤ n + sum_of ns
     by true h = omega arith
     by false h = omega arith
 
 -- and where p is an entry of the root, with its own size
-lower_fits : (p : ℕ) (root ns : List ℕ) (i : ℕ) → length ns ≡ length root → i < length root → p ≡ get_or root i 0 → lower p root ns + get_or ns i 0 ≤ sum_of ns
+lower_fits : (p : ℕ) (root ns : List ℕ) (i : ℕ) → length ns ≡ length root → i < length root → p ≡ get_or root i 0 → sizes_below p root ns + get_or ns i 0 ≤ sum_of ns
 lower_fits p [] ns i e lt q = absurd (omega arith)
 lower_fits p (r ∷ root) [] i e lt q = absurd (omega arith)
 lower_fits p (r ∷ root) (n ∷ ns) zero e lt q = by (nat_lt r p) refl (lower_own p root ns (omega arith))
   where
-    by : (b : Bool) → nat_lt r p ≡ b → lower p root ns ≤ sum_of ns → cond {A = ℕ} b n 0 + lower p root ns + n ≤ n + sum_of ns
+    by : (b : Bool) → nat_lt r p ≡ b → sizes_below p root ns ≤ sum_of ns → cond {A = ℕ} b n 0 + sizes_below p root ns + n ≤ n + sum_of ns
     by true h l = absurd (let m = ltb-true r p h in omega arith)
     by false h l = omega arith
 lower_fits p (r ∷ root) (n ∷ ns) (suc i) e lt q = by (nat_lt r p) (lower_fits p root ns i (omega arith) (omega arith) q)
   where
-    by : (b : Bool) → lower p root ns + get_or ns i 0 ≤ sum_of ns → cond {A = ℕ} b n 0 + lower p root ns + get_or ns i 0 ≤ n + sum_of ns
+    by : (b : Bool) → sizes_below p root ns + get_or ns i 0 ≤ sum_of ns → cond {A = ℕ} b n 0 + sizes_below p root ns + get_or ns i 0 ≤ n + sum_of ns
     by true h = omega arith
     by false h = omega arith
 
 -- the children, each raised, lie within the size
 fit_below : (n r : ℕ) (root ns : List ℕ) (rs : List ℕ) (rest : List Due) → Fit n rs rest → (parts cs ms : List ℕ) → length cs ≡ length parts → length ms ≡ length parts
-    → ((i : ℕ) → i < length parts → r + lower (get_or parts i 0) root ns + get_or ms i 0 ≤ n) → Fit n (raises r root ns parts ++ rs) (dues cs ms ++ rest)
+    → ((i : ℕ) → i < length parts → r + sizes_below (get_or parts i 0) root ns + get_or ms i 0 ≤ n) → Fit n (raises r root ns parts ++ rs) (dues cs ms ++ rest)
 fit_below n r root ns rs rest f [] [] ms e g h = f
 fit_below n r root ns rs rest f [] (c ∷ cs) ms e g h = absurd (omega arith)
 fit_below n r root ns rs rest f (p ∷ parts) [] ms e g h = absurd (omega arith)
@@ -187,13 +187,13 @@ writing_start S n xs le h = record {
   rest = refl;
 }
 
--- the lower sizes so far
+-- the sizes below an entry so far
 pub lower_next : (p sum s j whole : ℕ) (root ns : List ℕ) → j < length root → j < length ns
-    → sum + lower p (drop j root) (drop j ns) ≡ whole → s ≡ sum + cond {A = ℕ} (nat_lt (get_or root j 0) p) (get_or ns j 0) 0
-    → s + lower p (drop (j + 1) root) (drop (j + 1) ns) ≡ whole
+    → sum + sizes_below p (drop j root) (drop j ns) ≡ whole → s ≡ sum + cond {A = ℕ} (nat_lt (get_or root j 0) p) (get_or ns j 0) 0
+    → s + sizes_below p (drop (j + 1) root) (drop (j + 1) ns) ≡ whole
 lower_next p sum s j whole root ns lt lt2 h e =
-    let g : lower p (drop j root) (drop j ns) ≡ cond {A = ℕ} (nat_lt (get_or root j 0) p) (get_or ns j 0) 0 + lower p (drop (j + 1) root) (drop (j + 1) ns) =
-    ap₂ (λ a b. lower p a b) (drop_here root j 0 lt) (drop_here ns j 0 lt2) in
+    let g : sizes_below p (drop j root) (drop j ns) ≡ cond {A = ℕ} (nat_lt (get_or root j 0) p) (get_or ns j 0) 0 + sizes_below p (drop (j + 1) root) (drop (j + 1) ns) =
+    ap₂ (λ a b. sizes_below p a b) (drop_here root j 0 lt) (drop_here ns j 0 lt2) in
     omega arith
 
 -- the last is the first in reverse
@@ -236,14 +236,14 @@ writing_end S rs out w h = sym (append_nil out) ∙ ap (λ z. out ++ z) (sym (no
     none (r ∷ rs) = refl
 
 -- the numbers that raise the children from one on
-pub raises_here : (r : ℕ) (root ns parts : List ℕ) (i : ℕ) → i < length parts → raises r root ns (drop i parts) ≡ (r + lower (get_or parts i 0) root ns) ∷ raises r root ns (drop (i + 1) parts)
+pub raises_here : (r : ℕ) (root ns parts : List ℕ) (i : ℕ) → i < length parts → raises r root ns (drop i parts) ≡ (r + sizes_below (get_or parts i 0) root ns) ∷ raises r root ns (drop (i + 1) parts)
 raises_here r root ns parts i lt = ap (raises r root ns) (drop_here parts i 0 lt)
 
 -- one more, the first last
-pub raises_more : (r : ℕ) (root ns old out : List ℕ) (i j : ℕ) (v : ℕ) → j ≡ i + 1 → i < length root → v ≡ lower (get_or root i 0) root ns
+pub raises_more : (r : ℕ) (root ns old out : List ℕ) (i j : ℕ) (v : ℕ) → j ≡ i + 1 → i < length root → v ≡ sizes_below (get_or root i 0) root ns
     → out ≡ old ++ reverse (raises r root ns (drop j root)) → out ++ (r + v) ∷ [] ≡ old ++ reverse (raises r root ns (drop i root))
 raises_more r root ns old out i j v e lt h q =
     ap₂ (λ a b. a ++ (r + b) ∷ []) q h
-    ∙ append_assoc old (reverse (raises r root ns (drop j root))) ((r + lower (get_or root i 0) root ns) ∷ [])
-    ∙ ap (λ z. old ++ z) (ap (λ z. reverse (raises r root ns (drop z root)) ++ (r + lower (get_or root i 0) root ns) ∷ []) e
-    ∙ sym (ap reverse (raises_here r root ns root i lt) ∙ reverse_onto (raises r root ns (drop (i + 1) root)) (r + lower (get_or root i 0) root ns) []))
+    ∙ append_assoc old (reverse (raises r root ns (drop j root))) ((r + sizes_below (get_or root i 0) root ns) ∷ [])
+    ∙ ap (λ z. old ++ z) (ap (λ z. reverse (raises r root ns (drop z root)) ++ (r + sizes_below (get_or root i 0) root ns) ∷ []) e
+    ∙ sym (ap reverse (raises_here r root ns root i lt) ∙ reverse_onto (raises r root ns (drop (i + 1) root)) (r + sizes_below (get_or root i 0) root ns) []))

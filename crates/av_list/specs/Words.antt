@@ -7,15 +7,15 @@ use Rattle.av_sys.specs.Terms.{term_at}
 use Rattle.av_list.specs.declared.vertex.Vertex.{Vertex}
 
 -- the sum of the sizes of the children whose entry in the root is below p
-abbrev pub lower : ℕ → List ℕ → List ℕ → ℕ
-lower p [] ns = 0
-lower p (q ∷ root) [] = 0
-lower p (q ∷ root) (n ∷ ns) = cond {A = ℕ} (nat_lt q p) n 0 + lower p root ns
+abbrev pub sizes_below : ℕ → List ℕ → List ℕ → ℕ
+sizes_below p [] ns = 0
+sizes_below p (q ∷ root) [] = 0
+sizes_below p (q ∷ root) (n ∷ ns) = cond {A = ℕ} (nat_lt q p) n 0 + sizes_below p root ns
 
 -- by how much each child is raised: `parts` runs through the root
 abbrev pub raises : ℕ → List ℕ → List ℕ → List ℕ → List ℕ
 raises r root ns [] = []
-raises r root ns (p ∷ parts) = (r + lower p root ns) ∷ raises r root ns parts
+raises r root ns (p ∷ parts) = (r + sizes_below p root ns) ∷ raises r root ns parts
 
 -- what a vertex writes itself
 abbrev pub own : ℕ → Option Term → List ℕ

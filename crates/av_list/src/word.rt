@@ -4,7 +4,7 @@ ghost use Rattle.arrayvec.specs.ArrayVec.{array_vec_len};
 ghost use Rattle.av_sys.specs.Terms.{IsWellFormed};
 ghost use Rattle.av_list.specs.declared.vertex.Due.{Due};
 ghost use Rattle.av_list.specs.Sizes.{sum_of};
-ghost use Rattle.av_list.specs.Words.{lower, raises, word_of};
+ghost use Rattle.av_list.specs.Words.{sizes_below, raises, word_of};
 ghost use Rattle.av_list.specs.declared.vertex.Vertex.{Vertex};
 ghost use Rattle.av_list.specs.Derivations.{Completes, Writing};
 
@@ -15,11 +15,11 @@ use av_perm::{MAX_LENGTH, Perm};
 use av_sys::{System, Term};
 
 // The sum of the sizes of the children whose entry in the root is below entry i.
-fn lower_sizes(root: &Perm, sizes: &Sizes, i: usize) -> usize
+fn raise_of(root: &Perm, sizes: &Sizes, i: usize) -> usize
     requires i { i < length root.now }
     requires many { length sizes.now ≡ length root.now }
-    requires most { lower (slice_index root.now i) root.now sizes.now ≤ MAX_LENGTH }
-    ensures { result ≡ lower (slice_index root.now i) root.now sizes.now }
+    requires most { sizes_below (slice_index root.now i) root.now sizes.now ≤ MAX_LENGTH }
+    ensures { result ≡ sizes_below (slice_index root.now i) root.now sizes.now }
 {
     let entries = root.as_slice();
     let own = entries[i];
@@ -42,7 +42,7 @@ fn add_raises(root: &Perm, sizes: &Sizes, raise: usize, out: &mut ArrayVec<usize
     let len = sizes.len();
     for k in 0..len {
         let i = len - 1 - k;
-        out.push(raise + lower_sizes(root, sizes, i));
+        out.push(raise + raise_of(root, sizes, i));
     }
 }
 

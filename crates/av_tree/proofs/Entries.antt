@@ -19,13 +19,13 @@ use Rattle.av_count.proofs.Choices.{choices_grown, entry_counting, entry_map}
 use Rattle.av_count.proofs.Members.{members_by_terms, length_words, length_term, length_from, sum_more, count_by_terms}
 use Rattle.av_count.proofs.Filled.{same_or_not}
 use Rattle.av_tree.specs.declared.choosing.Pick.{Pick}
-use Rattle.av_tree.specs.Picks.{picked, Fitting, Chosen, Placed, RankedAt, lower}
+use Rattle.av_tree.specs.Picks.{picked, Fitting, Chosen, Placed, RankedAt, picks_below}
 use Rattle.av_tree.proofs.Picks.{drop_here}
 use Rattle.av_tree.proofs.TreeWords.{member_word}
 
 -- what lies below an entry of the root, by the sizes chosen
 pub lower_below : (S : System) → IsWellFormed S → (p : ℕ) (root cs : List ℕ) (n : ℕ) (ps : List Pick) → length root ≡ length cs → Fitting (count_at S) cs n ps
-    → points_below p root (picked (members_at S) cs ps) ≡ lower p root ps
+    → points_below p root (picked (members_at S) cs ps) ≡ picks_below p root ps
 lower_below S w p [] [] n ps e f = refl
 lower_below S w p [] (c ∷ cs) n ps e f = absurd (omega arith)
 lower_below S w p (q ∷ root) [] n ps e f = absurd (omega arith)
@@ -64,32 +64,32 @@ fitting_less S (c ∷ e ∷ cs) n (suc i) (k ∷ j ∷ ps) d lt two f =
     let r = fitting_at S (e ∷ cs) (n - k.size) i (j ∷ ps) d (omega arith) f.3 in omega (arith, f.0, f.1, r.most)
 
 -- what lies below an entry, and the entry's own size, fit
-pub lower_upto : (S : System) (p : ℕ) (root cs : List ℕ) (n : ℕ) (ps : List Pick) → length root ≡ length cs → Fitting (count_at S) cs n ps → lower p root ps ≤ n
+pub lower_upto : (S : System) (p : ℕ) (root cs : List ℕ) (n : ℕ) (ps : List Pick) → length root ≡ length cs → Fitting (count_at S) cs n ps → picks_below p root ps ≤ n
 lower_upto S p [] [] n ps e f = omega arith
 lower_upto S p [] (c ∷ cs) n ps e f = absurd (omega arith)
 lower_upto S p (q ∷ root) [] n ps e f = absurd (omega arith)
 lower_upto S p (q ∷ root) (c ∷ cs) n [] e f = absurd f
 lower_upto S p (q ∷ root) (c ∷ cs) n (k ∷ ps) e f = by (nat_lt q p) (lower_upto S p root cs (n - k.size) ps (omega arith) f.3)
   where
-    by : (b : Bool) → lower p root ps ≤ n - k.size → cond {A = ℕ} b k.size 0 + lower p root ps ≤ n
+    by : (b : Bool) → picks_below p root ps ≤ n - k.size → cond {A = ℕ} b k.size 0 + picks_below p root ps ≤ n
     by true h = omega (arith, f.1)
     by false h = omega (arith, f.1)
 
 -- what lies below an entry leaves room for its block
 pub lower_fits : (S : System) (p : ℕ) (root cs : List ℕ) (n i : ℕ) (ps : List Pick) (d : Pick) → length root ≡ length cs → i < length cs → p ≡ get_or root i 0
-    → Fitting (count_at S) cs n ps → lower p root ps + (get_or ps i d).size ≤ n
+    → Fitting (count_at S) cs n ps → picks_below p root ps + (get_or ps i d).size ≤ n
 lower_fits S p [] [] n i ps d e lt q f = absurd (omega arith)
 lower_fits S p [] (c ∷ cs) n i ps d e lt q f = absurd (omega arith)
 lower_fits S p (r ∷ root) [] n i ps d e lt q f = absurd (omega arith)
 lower_fits S p (r ∷ root) (c ∷ cs) n i [] d e lt q f = absurd f
 lower_fits S p (r ∷ root) (c ∷ cs) n zero (k ∷ ps) d e lt q f = by (nat_lt r p) refl (lower_upto S p root cs (n - k.size) ps (omega arith) f.3)
   where
-    by : (b : Bool) → nat_lt r p ≡ b → lower p root ps ≤ n - k.size → cond {A = ℕ} b k.size 0 + lower p root ps + k.size ≤ n
+    by : (b : Bool) → nat_lt r p ≡ b → picks_below p root ps ≤ n - k.size → cond {A = ℕ} b k.size 0 + picks_below p root ps + k.size ≤ n
     by true h l = absurd (let m = ltb-true r p h in omega arith)
     by false h l = omega (arith, f.1)
 lower_fits S p (r ∷ root) (c ∷ cs) n (suc i) (k ∷ ps) d e lt q f = by (nat_lt r p) (lower_fits S p root cs (n - k.size) i ps d (omega arith) (omega arith) q f.3)
   where
-    by : (b : Bool) → lower p root ps + (get_or ps i d).size ≤ n - k.size → cond {A = ℕ} b k.size 0 + lower p root ps + (get_or ps i d).size ≤ n
+    by : (b : Bool) → picks_below p root ps + (get_or ps i d).size ≤ n - k.size → cond {A = ℕ} b k.size 0 + picks_below p root ps + (get_or ps i d).size ≤ n
     by true h = omega (arith, f.1)
     by false h = omega (arith, f.1)
 
@@ -164,13 +164,13 @@ pub node_member : (S : System) (n left q u t : ℕ) (root cs : List ℕ) (ps : L
 node_member S n left q u t root cs ps e lt ch =
     ap (λ z. get_or (term_words S n z) left []) e ∙ node_entry S n left q root cs ps (subst (λ z. left < term_ways S n z) e lt) ch
 
--- the lower sizes so far
+-- the sizes below an entry so far
 pub lower_next : (p sum s j whole : ℕ) (root : List ℕ) (ps : List Pick) (d : Pick) → j < length root → j < length ps
-    → sum + lower p (drop j root) (drop j ps) ≡ whole → s ≡ sum + cond {A = ℕ} (nat_lt (get_or root j 0) p) (get_or ps j d).size 0
-    → s + lower p (drop (j + 1) root) (drop (j + 1) ps) ≡ whole
+    → sum + picks_below p (drop j root) (drop j ps) ≡ whole → s ≡ sum + cond {A = ℕ} (nat_lt (get_or root j 0) p) (get_or ps j d).size 0
+    → s + picks_below p (drop (j + 1) root) (drop (j + 1) ps) ≡ whole
 lower_next p sum s j whole root ps d lt lt2 h e =
-    let g : lower p (drop j root) (drop j ps) ≡ cond {A = ℕ} (nat_lt (get_or root j 0) p) (get_or ps j d).size 0 + lower p (drop (j + 1) root) (drop (j + 1) ps) =
-    ap₂ (λ a b. lower p a b) (drop_here root j 0 lt) (drop_here ps j d lt2) in
+    let g : picks_below p (drop j root) (drop j ps) ≡ cond {A = ℕ} (nat_lt (get_or root j 0) p) (get_or ps j d).size 0 + picks_below p (drop (j + 1) root) (drop (j + 1) ps) =
+    ap₂ (λ a b. picks_below p a b) (drop_here root j 0 lt) (drop_here ps j d lt2) in
     omega arith
 
 -- a shorter sum is no greater

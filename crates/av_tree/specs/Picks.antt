@@ -34,10 +34,10 @@ pub record Sized (S : System) (c : ℕ) (cs : List ℕ) (n F r m left : ℕ) : T
   pub within : left < F * count_at S c m * ways (count_at S) cs (n - m)
 
 -- the sum of the sizes of the children whose entry in the root is below p
-abbrev pub lower : ℕ → List ℕ → List Pick → ℕ
-lower p [] ps = 0
-lower p (q ∷ root) [] = 0
-lower p (q ∷ root) (k ∷ ps) = cond {A = ℕ} (nat_lt q p) k.size 0 + lower p root ps
+abbrev pub picks_below : ℕ → List ℕ → List Pick → ℕ
+picks_below p [] ps = 0
+picks_below p (q ∷ root) [] = 0
+picks_below p (q ∷ root) (k ∷ ps) = cond {A = ℕ} (nat_lt q p) k.size 0 + picks_below p root ps
 
 -- the count is that of the place r at which these choices stand, after place q of the F lists in front
 pub record Placed (S : System) (cs : List ℕ) (n F q : ℕ) (ps : List Pick) (count : Count) : Type 0 where

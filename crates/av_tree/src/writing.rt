@@ -3,7 +3,7 @@ ghost use Rattle.std.specs.Prelude.{◌≡◌, ◌<◌, ◌≤◌, ◌+◌, ◌-
 ghost use Rattle.av_sys.specs.Terms.{IsWellFormed, terms_at, term_at, children_of};
 ghost use Rattle.av_sys.specs.TreeLists.{count_at, members_at};
 ghost use Rattle.av_sys.specs.TreeLists.{members};
-ghost use Rattle.av_tree.specs.Picks.{lower};
+ghost use Rattle.av_tree.specs.Picks.{picks_below};
 
 use crate::choosing::{Pick, choose, choose_term};
 use arrayvec::ArrayVec;
@@ -12,11 +12,11 @@ use av_perm::{MAX_LENGTH, MAX_ROOT_LENGTH, Perm};
 use av_sys::{System, Term};
 
 // The sum of the sizes of the children whose entry in the root is below entry i.
-fn lower_sizes(root: &Perm, picks: &[Pick; MAX_ROOT_LENGTH], i: usize) -> usize
+fn raise_of(root: &Perm, picks: &[Pick; MAX_ROOT_LENGTH], i: usize) -> usize
     requires i { i < length root.now }
     requires few { length root.now ≤ MAX_ROOT_LENGTH }
-    requires most { lower (slice_index root.now i) root.now picks.now ≤ MAX_LENGTH }
-    ensures { result ≡ lower (slice_index root.now i) root.now picks.now }
+    requires most { picks_below (slice_index root.now i) root.now picks.now ≤ MAX_LENGTH }
+    ensures { result ≡ picks_below (slice_index root.now i) root.now picks.now }
 {
     let entries = root.as_slice();
     let own = entries[i];
@@ -67,7 +67,7 @@ fn push_member(
             );
             for i in 0..children.len() {
                 let pick = picks[i];
-                let up = raise + lower_sizes(root, &picks, i);
+                let up = raise + raise_of(root, &picks, i);
                 let child = *children.get(i) as usize;
                 push_member(system, table, child, pick.size, pick.rank, up, out);
             }

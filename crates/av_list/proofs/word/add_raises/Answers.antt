@@ -7,13 +7,13 @@ use Rattle.av_list.proofs.Writing.{lower_own, raises_more}
 use Rattle.av_list.proofs.WordLaws.{length_raises}
 use Rattle.av_list.proofs.word.add_raises.Goals as goal
 
-pub lower_sizes-requires-clause-most : goal.lower_sizes-requires-clause-most
-lower_sizes-requires-clause-most c =
+pub raise_of-requires-clause-most : goal.raise_of-requires-clause-most
+raise_of-requires-clause-most c =
     let l = lower_own (get_or c.args.root.now (c.len-len.result - 1 - c.loop-k.k) 0) c.args.root.now c.args.sizes.now c.requires.many in omega (arith, c.requires.most)
 
 pub overflow_add-raise : goal.overflow_add-raise
 overflow_add-raise c =
-    let l = lower_own (get_or c.args.root.now (c.len-len.result - 1 - c.loop-k.k) 0) c.args.root.now c.args.sizes.now c.requires.many in omega (arith, c.requires.most, c.lower_sizes.ensures)
+    let l = lower_own (get_or c.args.root.now (c.len-len.result - 1 - c.loop-k.k) 0) c.args.root.now c.args.sizes.now c.requires.many in omega (arith, c.requires.most, c.raise_of.ensures)
 
 -- there is room for one more number
 room : (r : ℕ) (root ns old out : List ℕ) (k : ℕ) → k < length root → length old + length root ≤ 160 → out ≡ old ++ reverse (raises r root ns (drop (length root - k) root)) → length out < 160
@@ -42,7 +42,7 @@ loop-k-preserved c =
     let k : length c.args.root.now - c.loop-k.k ≡ i + 1 = omega (arith, c.len-len.ensures, c.requires.many, c.loop-k-test.true) in
     let lt : i < length c.args.root.now = omega (arith, c.len-len.ensures, c.requires.many, c.loop-k-test.true) in
     c.push.ensures.items
-    ∙ raises_more c.args.raise c.args.root.now c.args.sizes.now c.args.out.now.items c.loop-k.out.items i (length c.args.root.now - c.loop-k.k) c.lower_sizes.result k lt c.lower_sizes.ensures c.loop-k.invariant
+    ∙ raises_more c.args.raise c.args.root.now c.args.sizes.now c.args.out.now.items c.loop-k.out.items i (length c.args.root.now - c.loop-k.k) c.raise_of.result k lt c.raise_of.ensures c.loop-k.invariant
     ∙ ap (λ z. c.args.out.now.items ++ reverse (raises c.args.raise c.args.root.now c.args.sizes.now (drop z c.args.root.now))) (sym j)
 
 pub returns : goal.returns

@@ -43,18 +43,18 @@ offset_bounds-picks-i t c =
     let g = node_form c.args.system.now c.args.eq c.choose_term-cut.result.at c.in-Node.root c.in-Node.children c.requires.formed (c.term.ensures ∙ ap Some c.in-Node.is) in
     omega (arith, g.few, c.loop-i-test.true, c.len-i-end.ensures)
 
-pub lower_sizes-requires-clause-i : goal.lower_sizes-requires-clause-i
-lower_sizes-requires-clause-i t c =
+pub raise_of-requires-clause-i : goal.raise_of-requires-clause-i
+raise_of-requires-clause-i t c =
     let g = node_form c.args.system.now c.args.eq c.choose_term-cut.result.at c.in-Node.root c.in-Node.children c.requires.formed (c.term.ensures ∙ ap Some c.in-Node.is) in
     omega (arith, g.long, c.loop-i-test.true, c.len-i-end.ensures)
 
-pub lower_sizes-requires-clause-few : goal.lower_sizes-requires-clause-few
-lower_sizes-requires-clause-few t c =
+pub raise_of-requires-clause-few : goal.raise_of-requires-clause-few
+raise_of-requires-clause-few t c =
     let g = node_form c.args.system.now c.args.eq c.choose_term-cut.result.at c.in-Node.root c.in-Node.children c.requires.formed (c.term.ensures ∙ ap Some c.in-Node.is) in
     omega (arith, g.long, g.few)
 
-pub lower_sizes-requires-clause-most : goal.lower_sizes-requires-clause-most
-lower_sizes-requires-clause-most t c =
+pub raise_of-requires-clause-most : goal.raise_of-requires-clause-most
+raise_of-requires-clause-most t c =
     let S = c.args.system.now in
     let e = c.term.ensures ∙ ap Some c.in-Node.is in
     let g = node_form S c.args.eq c.choose_term-cut.result.at c.in-Node.root c.in-Node.children c.requires.formed e in
@@ -69,7 +69,7 @@ overflow_add-up t c =
     let g = node_form S c.args.eq c.choose_term-cut.result.at c.in-Node.root c.in-Node.children c.requires.formed e in
     let ch = chosen_here S c.args.table.now.system c.args.eq c.choose_term-cut.result.at c.args.size c.choose_term-cut.result.left c.choose-in_front.result c.in-Node.root c.in-Node.children c.choose-in_front.new.picks c.requires.stands e c.choose_term-cut.ensures.left c.choose-in_front.ensures in
     let l = lower_upto S (get_or c.in-Node.root c.loop-i.i 0) c.in-Node.root c.in-Node.children c.args.size c.choose-in_front.new.picks g.long ch.fits in
-    omega (arith, l, c.requires.raise, c.lower_sizes.ensures)
+    omega (arith, l, c.requires.raise, c.raise_of.ensures)
 
 pub push_member-requires : goal.push_member-requires
 push_member-requires t c =
@@ -110,7 +110,7 @@ push_member-requires t c =
                 omega (arith, f.most, c.requires.most),
                 (
                   rank,
-                  (omega (arith, fits, c.lower_sizes.ensures, c.requires.raise), omega (arith, room, own, c.requires.room)),
+                  (omega (arith, fits, c.raise_of.ensures, c.requires.raise), omega (arith, room, own, c.requires.room)),
                 ),
               ),
             ),
@@ -133,10 +133,10 @@ loop-i-preserved t c =
     let less : i < length cs = omega (arith, c.loop-i-test.true, c.len-i-end.ensures) in
     let x = child_is cs i c.get.result.now c.get.ensures in
     let lp = length_picked S cs n ps ch.fits in
-    lifted_more c.args.raise c.lower_sizes.result root (picked (members_at S) cs ps) i c.args.out.now.items c.loop-i.out.items c.push_member.new.out.items
+    lifted_more c.args.raise c.raise_of.result root (picked (members_at S) cs ps) i c.args.out.now.items c.loop-i.out.items c.push_member.new.out.items
     (get_or (members_at S c.get.result.now (get_or ps i none).size) (get_or ps i none).rank [])
     c.loop-i.invariant c.push_member.ensures
-    (c.lower_sizes.ensures ∙ sym (lower_below S c.requires.formed (get_or root i 0) root cs n ps g.long ch.fits))
+    (c.raise_of.ensures ∙ sym (lower_below S c.requires.formed (get_or root i 0) root cs n ps g.long ch.fits))
     (sym (picked_at (members_at S) (count_at S) cs n i ps none less ch.fits ∙ ap (λ z. get_or (members_at S z (get_or ps i none).size) (get_or ps i none).rank []) x))
 
 pub returns-in-Point : goal.returns-in-Point

@@ -2,8 +2,8 @@
 use Rattle.std.proofs.Common.{◌≡◌, ◌<◌, ◌≤◌, ◌+◌, ℕ, length, get_or, nat_lt, cond, Bool, true, false, ◌∙◌, ap, arith, refl}
 use Rattle.std.proofs.lemmas.Bool.{lt-ltb, ltb-true}
 use Rattle.av_list.proofs.Writing.{lower_next}
-use Rattle.av_list.proofs.word.lower_sizes.Goals as goal
-use Rattle.av_list.proofs.word.lower_sizes.Goals.{then-entries-j, else-entries-j}
+use Rattle.av_list.proofs.word.raise_of.Goals as goal
+use Rattle.av_list.proofs.word.raise_of.Goals.{then-entries-j, else-entries-j}
 
 -- a smaller entry counts
 small : (x p s : ℕ) → x < p → s ≡ cond {A = ℕ} (nat_lt x p) s 0
