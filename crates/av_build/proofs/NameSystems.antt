@@ -27,7 +27,7 @@ use Rattle.av_build.proofs.Growing.{Canonical, canonical, NameAt}
 use Rattle.av_build.proofs.DraftMeanings.{BlocksMean, HasShape, IsRootDraft, root_draft_is, names_count, draft_root, node_sound, point_sound, some_shape}
 use Rattle.av_build.proofs.DraftsApart.{apart_same, drafts_apart}
 use Rattle.av_sys.proofs.Subtrees.{IsEquation, equation_term}
-use Rattle.av_build.proofs.TermLaws.{MeanAt, FitsTerm, IsTermAt, IsServed, IsRight, mean_at_blocks, at_means, means_at, term_equation, child_shorter, right_up_to}
+use Rattle.av_build.proofs.TermLaws.{MeanAt, HasTermShape, IsTermAt, IsServed, IsRight, mean_at_blocks, at_means, means_at, term_equation, child_shorter, right_up_to}
 
 -- words that mean the equations of numbers mean their names
 blocks_mean : (S : System) (cs : List ℕ) (ns : List Name) (αs : List (List ℕ)) → Numbered (NameAt S) cs ns → MeanAt S cs αs → BlocksMean ns αs
@@ -38,14 +38,14 @@ mean_numbered : (S : System) (cs : List ℕ) (ns : List Name) (αs : List (List 
 mean_numbered S cs ns αs = chained (NameAt S) Means (MeansAt S) (λ c n α k m. means_at S c k.0 α k.1 (subst (λ x. Means x α) (sym k.2) m)) cs ns αs
 
 -- a word of the shape of a term has that of its draft
-term_fits : (S : System) (w : List ℕ) (x : Term) (y : Draft) → Stands (NameAt S) x y → FitsTerm S w x → HasShape w y
+term_fits : (S : System) (w : List ℕ) (x : Term) (y : Draft) → Stands (NameAt S) x y → HasTermShape S w x → HasShape w y
 term_fits S w Point point s f = f
 term_fits S w Point (node root ns) s f = absurd s
 term_fits S w (Node root cs) point s f = absurd s
 term_fits S w (Node root cs) (node root' ns) s f = (f.0, subst (λ r. Decomposes w r f.0) s.0 f.1, blocks_mean S cs ns f.0 s.1 f.2)
 
 -- a word of the shape of a draft has that of its term
-pub fits_term : (S : System) (w : List ℕ) (x : Term) (y : Draft) → Stands (NameAt S) x y → HasShape w y → FitsTerm S w x
+pub fits_term : (S : System) (w : List ℕ) (x : Term) (y : Draft) → Stands (NameAt S) x y → HasShape w y → HasTermShape S w x
 fits_term S w Point point s f = f
 fits_term S w Point (node root ns) s f = absurd s
 fits_term S w (Node root cs) point s f = absurd s
@@ -93,7 +93,7 @@ module _ (basis roots : List (List ℕ)) (name : Name) (S : System) (c : Canonic
         root = draft_root basis h.equation.name (c.over u h.equation h.here) roots root h.names αs h.draft (blocks_mean S cs h.names αs h.numbered m);
       }
 
-  term_sound : (u t : ℕ) (x : Term) (w : List ℕ) → IsTermAt S u t x → FitsTerm S w x → MeansAt S u w
+  term_sound : (u t : ℕ) (x : Term) (w : List ℕ) → IsTermAt S u t x → HasTermShape S w x → MeansAt S u w
   term_sound u t Point w f g = let h = has_draft u t Point f in by h.equation h.here h.draft h.at_draft h.stands
     where
       meant : (e : Equation) → IsEquation S u e → DraftCases roots e.name point → Means e.name (1 ∷ [])
@@ -110,7 +110,7 @@ module _ (basis roots : List (List ℕ)) (name : Name) (S : System) (c : Canonic
   some_equation : (a b : Equation) → Some a ≡ Some b → a ≡ b
   some_equation a b e = cc
 
-  term_apart : Once roots → (u s t : ℕ) (x y : Term) (w : List ℕ) → IsTermAt S u s x → IsTermAt S u t y → FitsTerm S w x → FitsTerm S w y → s ≡ t
+  term_apart : Once roots → (u s t : ℕ) (x y : Term) (w : List ℕ) → IsTermAt S u s x → IsTermAt S u t y → HasTermShape S w x → HasTermShape S w y → s ≡ t
   term_apart o u s t x y w f g p q =
       let a = has_draft u s x f in
       let b = has_draft u t y g in
@@ -139,7 +139,7 @@ module _ (basis roots : List (List ℕ)) (name : Name) (S : System) (c : Canonic
     served = λ u w k l. by u w l (slice_get S.equations u) refl k;
   }
     where
-      by : (u : ℕ) (w : List ℕ) → length w ≤ m → (o : Option Equation) → slice_get S.equations u ≡ o → MeansOf o w → (t : ℕ) × (x : Term) × IsTermAt S u t x × FitsTerm S w x
+      by : (u : ℕ) (w : List ℕ) → length w ≤ m → (o : Option Equation) → slice_get S.equations u ≡ o → MeansOf o w → (t : ℕ) × (x : Term) × IsTermAt S u t x × HasTermShape S w x
       by u w l None q k = absurd k
       by u w l (Some e) q k =
           let member = mean_class e.name w (c.over u e q) k in

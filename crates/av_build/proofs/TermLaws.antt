@@ -24,9 +24,9 @@ abbrev pub MeanAt : System → List ℕ → List (List ℕ) → Type 0
 MeanAt S cs αs = Pointwise (MeansAt S) cs αs
 
 -- a word of the shape of a term: the word 1, or an inflation of the root by words of the children's names
-abbrev pub FitsTerm : System → List ℕ → Term → Type 0
-FitsTerm S w Point = w ≡ 1 ∷ []
-FitsTerm S w (Node root cs) = (αs : List (List ℕ)) × Decomposes w root αs × MeanAt S cs αs
+abbrev pub HasTermShape : System → List ℕ → Term → Type 0
+HasTermShape S w Point = w ≡ 1 ∷ []
+HasTermShape S w (Node root cs) = (αs : List (List ℕ)) × Decomposes w root αs × MeanAt S cs αs
 
 -- a word that means the name of some equation is a word
 pub mean_word : (o : Option Equation) (σ : List ℕ) → MeansOf o σ → IsWord σ
@@ -77,19 +77,19 @@ term_equation S u t x f = by (slice_get S.equations u) refl f
 -- the words that have a term of their shape, among those of a kind
 pub record IsServed (S : System) (P : List ℕ → Type 0) : Type 0 where
   pub down : (w root : List ℕ) (αs : List (List ℕ)) → P w → Decomposes w root αs → (i : ℕ) → i < length αs → P (block αs i)
-  pub served : (u : ℕ) (w : List ℕ) → MeansAt S u w → P w → (t : ℕ) × (x : Term) × IsTermAt S u t x × FitsTerm S w x
+  pub served : (u : ℕ) (w : List ℕ) → MeansAt S u w → P w → (t : ℕ) × (x : Term) × IsTermAt S u t x × HasTermShape S w x
 
 -- terms that generate nothing wrong: the values of their trees decompose by their roots, a word of the shape of one means the
 -- name, and no word has the shape of two
 pub record IsRight (S : System) : Type 0 where
   pub two : (u t : ℕ) (root cs : List ℕ) → IsTermAt S u t (Node root cs) → 2 ≤ length cs
   pub decomposes : (u t : ℕ) (root cs : List ℕ) → IsTermAt S u t (Node root cs) → (αs : List (List ℕ)) → MeanAt S cs αs → Decomposes (inflate root αs) root αs
-  pub sound : (u t : ℕ) (x : Term) (w : List ℕ) → IsTermAt S u t x → FitsTerm S w x → MeansAt S u w
-  pub apart : (u s t : ℕ) (x y : Term) (w : List ℕ) → IsTermAt S u s x → IsTermAt S u t y → FitsTerm S w x → FitsTerm S w y → s ≡ t
+  pub sound : (u t : ℕ) (x : Term) (w : List ℕ) → IsTermAt S u t x → HasTermShape S w x → MeansAt S u w
+  pub apart : (u s t : ℕ) (x y : Term) (w : List ℕ) → IsTermAt S u s x → IsTermAt S u t y → HasTermShape S w x → HasTermShape S w y → s ≡ t
 
 -- terms that serve each word
 abbrev pub IsWhole : System → Type 0
-IsWhole S = (u : ℕ) (w : List ℕ) → MeansAt S u w → (t : ℕ) × (x : Term) × IsTermAt S u t x × FitsTerm S w x
+IsWhole S = (u : ℕ) (w : List ℕ) → MeansAt S u w → (t : ℕ) × (x : Term) × IsTermAt S u t x × HasTermShape S w x
 
 -- equal lists have equal parts
 list_parts : (a b : List ℕ) (xs ys : List (List ℕ)) → (a ∷ xs) ≡ (b ∷ ys) → (a ≡ b) × (xs ≡ ys)
@@ -147,7 +147,7 @@ module _ (S : System) (P : List ℕ → Type 0) (served : IsServed S P) where
   )
 
   -- a word of the shape of a term
-  by_term : (d u : ℕ) (w : List ℕ) (t : ℕ) (x : Term) → ReachedUpTo d → length w ≤ suc d → P w → IsTermAt S u t x → FitsTerm S w x → IsReached u w
+  by_term : (d u : ℕ) (w : List ℕ) (t : ℕ) (x : Term) → ReachedUpTo d → length w ≤ suc d → P w → IsTermAt S u t x → HasTermShape S w x → IsReached u w
   unfolding are_valid
   by_term d u w t Point h l p f fit = (
     record { term = t; subtrees = none },
@@ -174,7 +174,7 @@ module _ (S : System) (right : IsRight S) where
     pub long : length (value S u T) ≡ size T
     pub term : Term
     pub at_term : IsTermAt S u T.term term
-    pub fits : FitsTerm S (value S u T) term
+    pub fits : HasTermShape S (value S u T) term
 
   -- so of each tree of size at most d
   abbrev ValuedUpTo : ℕ → Type 0
@@ -293,7 +293,7 @@ module _ (S : System) (right : IsRight S) where
   valued_once (suc d) u T U v w s r same =
       let a = valued (suc d) u T v s in
       let b = valued (suc d) u U w r in
-      let z : T.term ≡ U.term = right.apart u T.term U.term a.term b.term (value S u T) a.at_term b.at_term a.fits (subst (λ x. FitsTerm S x b.term) (sym same) b.fits) in
+      let z : T.term ≡ U.term = right.apart u T.term U.term a.term b.term (value S u T) a.at_term b.at_term a.fits (subst (λ x. HasTermShape S x b.term) (sym same) b.fits) in
       let e = tree_equation S u T v in
       let t = tree_term S u e.0 T e.1 v in
       let t' = tree_term S u e.0 U e.1 w in

@@ -20,7 +20,7 @@ use Rattle.av_build.proofs.TermsStand.{Stands}
 use Rattle.av_build.proofs.Growing.{Canonical, canonical, NameAt}
 use Rattle.av_build.proofs.DraftMeanings.{some_shape}
 use Rattle.av_build.proofs.AliveMarks.{tree_alive}
-use Rattle.av_build.proofs.TermLaws.{FitsTerm, IsTermAt, IsServed, means_at, reached}
+use Rattle.av_build.proofs.TermLaws.{HasTermShape, IsTermAt, IsServed, means_at, reached}
 use Rattle.av_build.proofs.NameSystems.{fits_term}
 use Rattle.av_check.specs.Verdicts.{is_dead}
 use Rattle.av_check.specs.Laws.{HoldsAllSimples}
@@ -33,7 +33,7 @@ class_served basis simples n S c h = record {
   served = λ u w m p. by u w p (slice_get S.equations u) refl m;
 }
   where
-    by : (u : ℕ) (w : List ℕ) → InClass basis w → (o : Option Equation) → slice_get S.equations u ≡ o → MeansOf o w → (t : ℕ) × (x : Term) × IsTermAt S u t x × FitsTerm S w x
+    by : (u : ℕ) (w : List ℕ) → InClass basis w → (o : Option Equation) → slice_get S.equations u ≡ o → MeansOf o w → (t : ℕ) × (x : Term) × IsTermAt S u t x × HasTermShape S w x
     by u w p None q m = absurd m
     by u w p (Some e) q m =
         let r = some_shape [] simples e.name w (c.over u e q) m (λ π s k. h.all π s (class_down basis w π p (record { numbers = s.numbers; filled = omega (arith, s.long) }) k)) in

@@ -37,7 +37,7 @@ use Rattle.av_build.proofs.Growing.{In_get}
 use Rattle.av_build.proofs.NameEquations.{decomposed_word, root_is_word, root_splits, equation_law}
 use Rattle.av_build.proofs.DraftMeanings.{point_listed, point_sound, point_complete}
 use Rattle.av_build.proofs.DraftsApart.{apart_same}
-use Rattle.av_build.proofs.TermLaws.{MeanAt, FitsTerm, IsTermAt, IsRight, IsWhole, mean_at_blocks, means_at, term_equation}
+use Rattle.av_build.proofs.TermLaws.{MeanAt, HasTermShape, IsTermAt, IsRight, IsWhole, mean_at_blocks, means_at, term_equation}
 use Rattle.av_walk.specs.Walk.{Ending, good, bare, twice, extra, Leaf}
 use Rattle.av_walk.specs.Leaves.{name_of_equation, names_at, names_of_root}
 use Rattle.av_check.specs.declared.verdict.Flaw.TheVariants.{Twice, Extra}
@@ -256,7 +256,7 @@ module _ (limit : ℕ) (basis required : List (List ℕ)) (S : System) (simples 
     }
 
     -- a word of the shape of a term means the name
-    term_means : (x : Term) (w : List ℕ) → In x e.terms → FitsTerm S w x → Means e.name w
+    term_means : (x : Term) (w : List ℕ) → In x e.terms → HasTermShape S w x → Means e.name w
     term_means Point w i f =
         let h : has_point e.name ≡ true = due_some (has_point e.name) (let c = (ok.faultless u e q).points in omega (arith, point_counts e.terms Point i tt)) in
         subst (Means e.name) (sym f) (point_sound basis e.name point over (listed h))
@@ -274,7 +274,7 @@ module _ (limit : ℕ) (basis required : List (List ℕ)) (S : System) (simples 
         ((listed_is simples e.name.sign root simple (node_listed root cs i)).serves, (get_or (boxes root e.name.avoid e.name.require) box.0 [], In_at (boxes root e.name.avoid e.name.require) box.0 [] box.1, box.2))
 
     -- no word has the shape of two terms
-    term_once : (s t : ℕ) (x y : Term) (w : List ℕ) → slice_get e.terms s ≡ Some x → slice_get e.terms t ≡ Some y → FitsTerm S w x → FitsTerm S w y → s ≡ t
+    term_once : (s t : ℕ) (x y : Term) (w : List ℕ) → slice_get e.terms s ≡ Some x → slice_get e.terms t ≡ Some y → HasTermShape S w x → HasTermShape S w y → s ≡ t
     term_once s t Point Point w a b f g =
         apart_same IsPoint e.terms s t Point Point (points_apart e.terms (let c = (ok.faultless u e q).points in omega (arith, due_most (has_point e.name)))) a b tt tt
     term_once s t Point (Node root cs) w a b f g = absurd (one_not w root g.0 f g.1)
@@ -287,7 +287,7 @@ module _ (limit : ℕ) (basis required : List (List ℕ)) (S : System) (simples 
         (refl, f.2) (sym same.0, subst (MeanAt S cs') (sym same.1) g.2)
 
     -- a word that means the name has the shape of a term
-    term_found : (w : List ℕ) → Means e.name w → (t : ℕ) × (x : Term) × (slice_get e.terms t ≡ Some x) × FitsTerm S w x
+    term_found : (w : List ℕ) → Means e.name w → (t : ℕ) × (x : Term) × (slice_get e.terms t ≡ Some x) × HasTermShape S w x
     term_found w m = elim (cases_eq (length w) 1) [
       | inl one ↦
           let f = word_of_one w m.word one in
@@ -328,6 +328,6 @@ module _ (limit : ℕ) (basis required : List (List ℕ)) (S : System) (simples 
   pub checked_whole : IsWhole S
   checked_whole u w m = by u w (slice_get S.equations u) refl m
     where
-      by : (u : ℕ) (w : List ℕ) (o : Option Equation) → slice_get S.equations u ≡ o → MeansOf o w → (t : ℕ) × (x : Term) × IsTermAt S u t x × FitsTerm S w x
+      by : (u : ℕ) (w : List ℕ) (o : Option Equation) → slice_get S.equations u ≡ o → MeansOf o w → (t : ℕ) × (x : Term) × IsTermAt S u t x × HasTermShape S w x
       by u w None q m = absurd m
       by u w (Some e) q m = let r = term_found u e q w m in (r.0, r.1, equation_term S u r.0 e q ∙ r.2, r.3)
