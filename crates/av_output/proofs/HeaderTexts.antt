@@ -8,7 +8,7 @@ use Rattle.av_print.specs.Systems.{system_text}
 use Rattle.av_sys.specs.declared.terms.System.{System}
 use Rattle.av_check.specs.declared.claim.Claim.{Claim}
 use Rattle.av_check.specs.ClaimLaws.{Shown, IsShown, IsUnbroken, passed_text, required_text, text_of_claim}
-use Rattle.av_check.proofs.Terms.{pass_two}
+use Rattle.av_print.proofs.Tokens.{pass_both}
 use Rattle.av_session.specs.declared.subject.United.{United}
 use Rattle.av_session.specs.declared.subject.Subject.{Subject}
 use Rattle.av_session.specs.Due.{level_text, levels_text, union_text, require_text, header_text, settled_header}
@@ -33,7 +33,7 @@ union_unbroken None = tt
 union_unbroken (Some lists) =
     let second : List ℕ = codes " with " ⊹ words_text lists.second in
     none_breaks (words_text lists.first ⊹ second)
-    (pass_two stays (words_text lists.first) second (words_stay lists.first) (pass_two stays (codes " with ") (words_text lists.second) refl (words_stay lists.second)))
+    (pass_both stays (words_text lists.first) second (words_stay lists.first) (pass_both stays (codes " with ") (words_text lists.second) refl (words_stay lists.second)))
 
 -- the line of the required words
 require_is : (required : Option (List (List ℕ))) → require_text required ≡ required_text required

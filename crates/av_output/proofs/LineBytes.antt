@@ -8,9 +8,8 @@ use Rattle.av_perm.specs.Gap.{simples}
 use Rattle.av_perm.specs.Lists.{counting}
 use Rattle.av_perm.proofs.Tests.{all_from}
 use Rattle.av_print.specs.Text.{◌⊹◌, word_text, joined_or_none, words_text}
-use Rattle.av_print.proofs.Tokens.{pass_wider, pass_joined, is_token_byte}
+use Rattle.av_print.proofs.Tokens.{pass_wider, pass_joined, pass_both, is_token_byte}
 use Rattle.av_print.proofs.NumberTokens.{numeral_digits, digit_in_token}
-use Rattle.av_check.proofs.Terms.{pass_two}
 use Rattle.av_check.proofs.Tokens.{list_pass}
 use Rattle.av_session.specs.Due.{level_text}
 
@@ -45,12 +44,12 @@ words_stay (w ∷ ws) = pass_joined stays word_text (codes " ") word_stays refl 
 level_stays : (basis : List (List ℕ)) (m : ℕ) → list_all stays (level_text basis m) ≡ true
 level_stays basis m =
     let count : List ℕ = decimal (length (simples basis m)) in
-    pass_two stays (codes " ") (decimal m ⊹ codes ":" ⊹ count) refl
-    (pass_two stays (decimal m) (codes ":" ⊹ count) (decimal_stays m) (pass_two stays (codes ":") count refl (decimal_stays (length (simples basis m)))))
+    pass_both stays (codes " ") (decimal m ⊹ codes ":" ⊹ count) refl
+    (pass_both stays (decimal m) (codes ":" ⊹ count) (decimal_stays m) (pass_both stays (codes ":") count refl (decimal_stays (length (simples basis m)))))
 
 levels_stay : (basis : List (List ℕ)) (ms : List ℕ) → list_all stays (flat_map (level_text basis) ms) ≡ true
 levels_stay basis [] = refl
-levels_stay basis (m ∷ ms) = pass_two stays (level_text basis m) (flat_map (level_text basis) ms) (level_stays basis m) (levels_stay basis ms)
+levels_stay basis (m ∷ ms) = pass_both stays (level_text basis m) (flat_map (level_text basis) ms) (level_stays basis m) (levels_stay basis ms)
 
 -- those of at least one length begin with a space
 pub record HasLevels (basis : List (List ℕ)) (ms : List ℕ) : Type 0 where
@@ -65,7 +64,7 @@ levels_begin basis (suc k) h =
     record {
       rest = (decimal 4 ⊹ codes ":" ⊹ count) ++ flat_map (level_text basis) (counting 5 k);
       is = refl;
-      stay = pass_two stays (decimal 4 ⊹ codes ":" ⊹ count) (flat_map (level_text basis) (counting 5 k))
-          (pass_two stays (decimal 4) (codes ":" ⊹ count) (decimal_stays 4) (pass_two stays (codes ":") count refl (decimal_stays (length (simples basis 4)))))
+      stay = pass_both stays (decimal 4 ⊹ codes ":" ⊹ count) (flat_map (level_text basis) (counting 5 k))
+          (pass_both stays (decimal 4) (codes ":" ⊹ count) (decimal_stays 4) (pass_both stays (codes ":") count refl (decimal_stays (length (simples basis 4)))))
           (levels_stay basis (counting 5 k));
     }

@@ -6,7 +6,7 @@ use Rattle.av_perm.specs.Class.{minimal, top}
 use Rattle.av_perm.specs.Gap.{simples_below, IsSettled}
 use Rattle.av_perm.specs.Relations.{IsWord, AreWords, InClass}
 use Rattle.av_perm.specs.Laws.{IsGap, IsLeastGap}
-use Rattle.av_perm.proofs.Membership.{Each}
+use Rattle.av_perm.proofs.Membership.{Each, all_each}
 use Rattle.av_perm.proofs.MinimalWords.{words_each, minimal_words}
 use Rattle.av_perm.proofs.TopWords.{top_words}
 use Rattle.av_perm.proofs.Classes.{minimal_holds}
@@ -22,7 +22,6 @@ use Rattle.av_text.proofs.Kept.{read_kept}
 use Rattle.av_build.specs.Canonical.{IsCanonical, system_size}
 use Rattle.av_build.specs.declared.limits.TheConstants.{MAX_SIZE}
 use Rattle.av_build.specs.Lean.{lean}
-use Rattle.av_build.proofs.ShortNames.{all_each}
 use Rattle.av_build.proofs.BareSystems.{size_law}
 use Rattle.av_build.proofs.LeanForm.{lean_form_law}
 use Rattle.av_build.proofs.CanonicalForm.{canonical_form_law}

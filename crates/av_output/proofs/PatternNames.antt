@@ -16,7 +16,7 @@ use Rattle.av_sys.specs.declared.terms.Equation.{Equation}
 use Rattle.av_sys.specs.declared.terms.System.{System}
 use Rattle.av_build.specs.Canonical.{IsCanonical, first_name, grow, equations_of, as_system}
 use Rattle.av_build.specs.Lean.{name_of, lean_equation, kept, lean}
-use Rattle.av_build.proofs.Growing.{get_In}
+use Rattle.av_perm.proofs.ListLaws.{get_In}
 use Rattle.av_build.proofs.ListPlaces.{part_sum}
 use Rattle.av_build.proofs.ShortNames.{IsShortOver, first_short, class_short}
 use Rattle.av_check.specs.Claims.{IsPattern, ArePatterns, IsNamedByPatterns}

@@ -102,12 +102,12 @@ interval_block σ a m w i s t u hs ks ht kt hu out lo hi =
         w.apart (a + j) (a + k) (omega arith) (omega (arith, i.0)) (omega arith)
 
 -- the number at `u`, outside, lies between those at `s` and `t`, inside
-abbrev Splits : (ℕ → ℕ) → ℕ → ℕ → ℕ → ℕ → ℕ → Type 0
-Splits f a m s t u = ((a ≤ s) × (s < a + m)) × (((a ≤ t) × (t < a + m)) × (IsOutside a m u × ((f s < f u) × (f u < f t))))
+abbrev Separates : (ℕ → ℕ) → ℕ → ℕ → ℕ → ℕ → ℕ → Type 0
+Separates f a m s t u = ((a ≤ s) × (s < a + m)) × (((a ≤ t) × (t < a + m)) × (IsOutside a m u × ((f s < f u) × (f u < f t))))
 
--- splitting is decided
-splits_decided : (f : ℕ → ℕ) (a m s t u : ℕ) → Decided (Splits f a m s t u)
-splits_decided f a m s t u =
+-- separating is decided
+separates_decided : (f : ℕ → ℕ) (a m s t u : ℕ) → Decided (Separates f a m s t u)
+separates_decided f a m s t u =
     both_decided (both_decided (le_decided a s) (lt_decided s (a + m)))
     (both_decided (both_decided (le_decided a t) (lt_decided t (a + m)))
     (both_decided (either_decided (lt_decided u a) (le_decided (a + m) u)) (both_decided (lt_decided (f s) (f u)) (lt_decided (f u) (f t)))))
@@ -115,9 +115,9 @@ splits_decided f a m s t u =
 -- being a block is decided
 block_decided : (n : ℕ) (f : ℕ → ℕ) (a m : ℕ) → a + m ≤ n → Decided (IsBlock n f a m)
 block_decided n f a m h =
-    elim (some_decided n (λ s. (t : ℕ) × (t < n) × ((u : ℕ) × (u < n) × Splits f a m s t u))
-    (λ s. some_decided n (λ t. (u : ℕ) × (u < n) × Splits f a m s t u)
-    (λ t. some_decided n (λ u. Splits f a m s t u) (λ u. splits_decided f a m s t u)))) [
+    elim (some_decided n (λ s. (t : ℕ) × (t < n) × ((u : ℕ) × (u < n) × Separates f a m s t u))
+    (λ s. some_decided n (λ t. (u : ℕ) × (u < n) × Separates f a m s t u)
+    (λ t. some_decided n (λ u. Separates f a m s t u) (λ u. separates_decided f a m s t u)))) [
       | inl r ↦
           let x = r.2.2.2 in
           inr (λ b. b r.0 r.2.0 r.2.2.0 x.0.0 x.0.1 x.1.0.0 x.1.0.1 r.2.2.1 x.1.1.0 x.1.1.1.0 x.1.1.1.1)
