@@ -1,3 +1,4 @@
+-- The list of embeddings: all maps, sieved by whether they are embeddings.
 use Rattle.av_embed.proofs.EmbeddingList.{embeddings_hold}
 use Rattle.av_embed.proofs.laws.embeddings_law.Goals as goal
 

@@ -1,3 +1,4 @@
+-- What is left is copied to the front, and the rest is cut off.
 use Rattle.std.proofs.Common.{◌≡◌, ◌+◌, ◌-◌, length, take, drop, ap, ◌∙◌, arith, rules, length-drop, take_all}
 use lib.Seq.{paste}
 use Rattle.std.proofs.lemmas.List.{with_items_is, places}

@@ -1,3 +1,4 @@
+-- The words of such a class of a length: those of all words of that length that pass both tests.
 use Rattle.av_perm.proofs.WordLists.{class_with_list, class_with_ascending}
 use Rattle.av_perm.proofs.laws.class_with_at_law.Goals as goal
 

@@ -1,3 +1,4 @@
+-- The class with required words: the test of the class, and of all required words by containment.
 use Rattle.av_perm.proofs.Classes.{class_with_holds}
 use Rattle.av_perm.proofs.laws.class_with_law.Goals as goal
 

@@ -1,3 +1,4 @@
+-- Containment: a first occurrence is found exactly where there is an occurrence.
 use Rattle.av_perm.proofs.Occurrences.{contains_from, contains_to}
 use Rattle.av_perm.proofs.laws.contains_law.Goals as goal
 

@@ -1,3 +1,4 @@
+-- Maximal words: what is sorted and sieved by containment, and containment has no circle.
 use Rattle.av_perm.proofs.Classes.{maximal_holds}
 use Rattle.av_perm.proofs.laws.maximal_law.Goals as goal
 

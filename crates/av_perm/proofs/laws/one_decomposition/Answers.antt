@@ -1,3 +1,4 @@
+-- A decomposition is the only one: its root and its blocks are those that the word itself tells.
 use Rattle.av_perm.proofs.OneDecomposition.{one_decomposition}
 use Rattle.av_perm.proofs.laws.one_decomposition.Goals as goal
 

@@ -1,3 +1,4 @@
+-- The parts that are found: one way of cutting the word passes, and what passes is its decomposition.
 use Rattle.av_perm.proofs.Parts.{parts_law}
 use Rattle.av_perm.proofs.laws.parts_law.Goals as goal
 

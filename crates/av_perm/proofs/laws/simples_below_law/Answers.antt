@@ -1,3 +1,4 @@
+-- The simple words of a class below a length: its levels from length 4 on, end to end.
 use Rattle.av_perm.proofs.Gaps.{below_list, below_ascending}
 use Rattle.av_perm.proofs.laws.simples_below_law.Goals as goal
 

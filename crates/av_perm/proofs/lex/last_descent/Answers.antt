@@ -1,3 +1,4 @@
+-- What goes down behind `start` still does one place further on.
 use Rattle.std.proofs.Common.{◌-◌, arith, length}
 use Rattle.av_perm.proofs.LexOrder.{descends_last, descends_more}
 use Rattle.av_perm.proofs.lex.last_descent.Goals as goal

@@ -1,3 +1,4 @@
+-- The command without options has neither help nor version.
 use Rattle.std.proofs.Common.{◌∙◌, ap, true}
 use Rattle.clap.specs.Simple.{app_of_fields, on_top}
 use Rattle.av_session.proofs.command.bare_command.Goals as goal

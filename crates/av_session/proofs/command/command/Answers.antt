@@ -1,3 +1,4 @@
+-- Each option adds its own rule to those before.
 use Rattle.std.proofs.Common.{◌∙◌, ap₂}
 use Rattle.clap.specs.Simple.{with_rule}
 use Rattle.av_session.proofs.command.command.Goals as goal

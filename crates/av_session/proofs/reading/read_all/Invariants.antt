@@ -1,3 +1,4 @@
+-- The bytes read are those taken from the source, no more than are asked for.
 use Rattle.std.proofs.Common.{◌≡◌, ◌≤◌, ◌-◌, length, vec_len}
 use Rattle.std.specs.Io.KnownBytes.{Consumes}
 use Rattle.av_session.proofs.reading.read_all.Given as goal

@@ -1,3 +1,4 @@
+-- The value is that of the digits gone over; three digits stay below 1000.
 use Rattle.std.proofs.Common.{◌≡◌, take}
 use Rattle.std.specs.Str.Parse.{digits_value}
 use Rattle.av_text.proofs.words.short_value.Given as goal

@@ -1,3 +1,4 @@
+-- The line of the numbers of equations and terms is cut at blanks.
 use Rattle.std.proofs.Common.{ap, ◌∙◌}
 use Rattle.av_check.proofs.Loops.{bytes}
 use Rattle.av_check.proofs.ReadAs.{reads_as}

@@ -1,3 +1,4 @@
+-- The two numbers of a system, each within its bounds.
 use Rattle.av_check.proofs.Announced.{no_terms}
 use Rattle.av_check.proofs.reading.announced.numbers_of.Goals as goal
 

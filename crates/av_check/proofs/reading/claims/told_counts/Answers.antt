@@ -1,3 +1,4 @@
+-- Where the line of the numbers of equations and terms is wrong, that line is the first fault.
 use Rattle.av_check.proofs.Taking.{stops_at_counts}
 use Rattle.av_check.proofs.reading.claims.told_counts.Goals as goal
 

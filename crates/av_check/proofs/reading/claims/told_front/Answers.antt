@@ -1,3 +1,4 @@
+-- The lines before the system, up to the first that is not as demanded.
 use Rattle.av_check.proofs.Taking.{stops_at_basis, takes_first}
 use Rattle.av_check.proofs.reading.claims.told_front.Goals as goal
 

@@ -1,3 +1,4 @@
+-- The lines of a system end where its last equation does.
 use Rattle.std.proofs.Common.{inr, refl, sym, true≢false}
 use Rattle.av_check.proofs.SystemLines.{system_taken, takes_system}
 use Rattle.av_check.proofs.reading.claims.told_system.Goals as goal

@@ -1,3 +1,4 @@
+-- A line of words is its key and the words of the other tokens.
 use Rattle.std.proofs.Common.{ap, ◌∙◌}
 use Rattle.av_check.proofs.Loops.{bytes}
 use Rattle.av_check.proofs.ReadAs.{reads_ok_as}

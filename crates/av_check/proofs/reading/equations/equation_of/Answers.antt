@@ -1,3 +1,4 @@
+-- An equation is its line cut at blanks.
 use Rattle.std.proofs.Common.{ap, ◌∙◌}
 use Rattle.av_check.proofs.Loops.{bytes}
 use Rattle.av_check.proofs.ReadAs.{reads_ok_as}

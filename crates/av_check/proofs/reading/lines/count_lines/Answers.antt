@@ -1,3 +1,4 @@
+-- There are no more lines than bytes, so their number stays in range.
 use Rattle.std.proofs.Common.{ap, length, arith}
 use Rattle.av_text.proofs.Cuts.{lines_few}
 use Rattle.av_check.proofs.reading.lines.count_lines.Goals as goal

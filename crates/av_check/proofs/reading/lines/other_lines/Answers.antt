@@ -1,3 +1,4 @@
+-- The lines after the first are those of the bytes behind its line feed.
 use Rattle.std.proofs.Common.{◌+◌, drop, sym, ap, ◌∙◌}
 use Rattle.av_text.specs.Lines.{script_lines}
 use Rattle.av_text.proofs.Cuts.{lines_cut, lines_none, rest_all}

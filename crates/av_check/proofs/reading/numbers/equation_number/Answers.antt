@@ -1,3 +1,4 @@
+-- The number of an equation is what follows the letter E.
 use Rattle.std.proofs.Common.{◌++◌, codes, decimal, sym, ap, ◌∙◌, arith}
 use Rattle.std.proofs.lemmas.List.{append_cancel_left}
 use Rattle.av_print.specs.Systems.{number_text}

@@ -1,3 +1,4 @@
+-- A numeral without leading zeros is the text of its value alone.
 use Rattle.std.proofs.Common.{arith}
 use Rattle.av_check.proofs.Numerals.{number_from, number_none}
 use Rattle.av_check.proofs.reading.numbers.number_between.Goals as goal

@@ -1,3 +1,4 @@
+-- What stands after a known beginning.
 use Rattle.std.proofs.lemmas.Bool.Decides.{Decides-eqb}
 use Rattle.std.proofs.lemmas.Slice.Eq.{strip_prefix_is}
 use Rattle.av_check.proofs.reading.pieces.after.Goals as goal

@@ -1,3 +1,4 @@
+-- What stands before a known end.
 use Rattle.std.proofs.lemmas.Bool.Decides.{Decides-eqb}
 use Rattle.std.proofs.lemmas.Slice.Eq.{strip_suffix_is}
 use Rattle.av_check.proofs.reading.pieces.before.Goals as goal

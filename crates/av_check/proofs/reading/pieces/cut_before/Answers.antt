@@ -1,3 +1,4 @@
+-- The first token that is the known one is found, since none before it was.
 use Rattle.std.proofs.Common.{refl, sym, true≢false}
 use Rattle.av_check.proofs.Loops.{cut_here, none_more}
 use Rattle.av_check.proofs.reading.pieces.cut_before.Goals as goal

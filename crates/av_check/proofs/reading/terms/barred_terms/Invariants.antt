@@ -1,3 +1,4 @@
+-- The terms that were read, with the bars before them, and the tokens that are left are all tokens.
 use Rattle.std.proofs.Common.{length}
 use Rattle.av_check.proofs.Loops.{bytes}
 use Rattle.av_check.proofs.Terms.{HaveBars}

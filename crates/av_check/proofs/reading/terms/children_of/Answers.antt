@@ -1,3 +1,4 @@
+-- The numbers of children stand between commas.
 use Rattle.std.proofs.Common.{ap, ◌∙◌}
 use Rattle.av_check.proofs.Loops.{bytes}
 use Rattle.av_check.proofs.ReadAs.{reads_ok_as}

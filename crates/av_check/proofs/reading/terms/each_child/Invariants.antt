@@ -1,3 +1,4 @@
+-- The children that were read are those of the pieces gone over.
 use Rattle.std.proofs.Common.{◌<◌}
 use Rattle.av_print.specs.Systems.{number_text}
 use Rattle.av_check.proofs.Loops.{HaveRead}

@@ -1,3 +1,4 @@
+-- A root takes as many children as it has entries.
 use Rattle.std.proofs.Common.{◌≡◌, sym, ◌∙◌, arith}
 use Rattle.av_check.proofs.Terms.{not_as_many}
 use Rattle.av_check.proofs.reading.terms.node_of.Goals as goal

@@ -1,3 +1,4 @@
+-- A term is the point, or else a root with its children in brackets.
 use Rattle.std.proofs.Common.{refl, sym, ap, ◌∙◌, true≢false}
 use Rattle.av_print.specs.Systems.{term_text}
 use Rattle.av_check.proofs.Loops.{bytes}

@@ -1,3 +1,4 @@
+-- The terms of an equation stand between bars.
 use Rattle.std.proofs.Common.{sym, true≢false}
 use Rattle.av_check.proofs.Loops.{bytes}
 use Rattle.av_check.proofs.ReadAs.{reads_ok_as}

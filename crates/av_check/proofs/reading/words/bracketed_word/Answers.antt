@@ -1,3 +1,4 @@
+-- A word stands in brackets exactly where its text begins with one.
 use Rattle.av_check.proofs.ReadAs.{reads_as}
 use Rattle.av_check.proofs.RootTexts.{bracketed_same, plain_same}
 use Rattle.av_check.proofs.reading.words.bracketed_word.Goals as goal

@@ -1,3 +1,4 @@
+-- The words that were read are those of the tokens gone over.
 use Rattle.av_print.specs.Text.{word_text}
 use Rattle.av_check.specs.Claims.{IsPattern}
 use Rattle.av_check.proofs.Loops.{HaveRead}

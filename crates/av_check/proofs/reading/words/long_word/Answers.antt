@@ -1,3 +1,4 @@
+-- A word with commas has ten entries at least.
 use Rattle.std.proofs.Common.{sym, ap, ◌∙◌, length, arith}
 use Rattle.av_check.proofs.Spellings.{pattern_once}
 use Rattle.av_check.proofs.reading.words.long_word.Goals as goal

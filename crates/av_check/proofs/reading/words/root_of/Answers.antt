@@ -1,3 +1,4 @@
+-- A root is a word that is one of a system, and no other word has its text.
 use Rattle.std.proofs.Common.{sym, ap, ◌∙◌, true≢false}
 use Rattle.av_sys.specs.Terms.{is_system_root}
 use Rattle.av_sys.proofs.FormTests.{root_from, root_to}

@@ -1,3 +1,4 @@
+-- A word without commas has nine entries at most.
 use Rattle.std.proofs.Common.{sym, ap, ◌∙◌, length, arith}
 use Rattle.av_check.proofs.Spellings.{pattern_once}
 use Rattle.av_check.proofs.reading.words.short_word.Goals as goal

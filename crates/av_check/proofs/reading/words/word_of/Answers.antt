@@ -1,3 +1,4 @@
+-- A word is spelt in one way only, so a token that is spelt otherwise is none.
 use Rattle.av_check.proofs.Spellings.{word_spelt, word_none, spelt_way, spelt_passes}
 use Rattle.av_check.proofs.reading.words.word_of.Goals as goal
 use Rattle.av_check.proofs.reading.words.word_of.Goals.{in_default-via-in-Ok+else-is_spelt, in_default-via-in_default}

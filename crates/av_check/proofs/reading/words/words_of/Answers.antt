@@ -1,3 +1,4 @@
+-- A list of words is `none`, or else one word or more.
 use Rattle.std.proofs.Common.{sym, true≢false}
 use Rattle.av_check.proofs.ReadAs.{reads_ok_as}
 use Rattle.av_check.proofs.Lists.{some_tokens, list_same}

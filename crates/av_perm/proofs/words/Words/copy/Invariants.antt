@@ -1,3 +1,4 @@
+-- The words that were gone over are copied.
 use Rattle.std.proofs.Common.{◌≡◌, take}
 use Rattle.av_perm.proofs.words.Words.copy.Given as goal
 

@@ -1,3 +1,4 @@
+-- Where no bytes are left there is no line.
 use Rattle.std.proofs.Common.{◌≡◌, length, sym, ◌∙◌, arith}
 use Rattle.std.proofs.lemmas.Bool.Decides.{nat_tests}
 use Rattle.av_text.proofs.Cuts.{lines_empty}

@@ -1,3 +1,4 @@
+-- The line that is as it has to be is passed over.
 use Rattle.std.proofs.Common.{refl}
 use Rattle.av_check.proofs.NextLines.{passes_one}
 use Rattle.av_check.proofs.reading.lines.Lines.pass_known.Goals as goal

@@ -1,3 +1,4 @@
+-- The line that begins so is passed over.
 use Rattle.std.proofs.Common.{refl}
 use Rattle.av_check.proofs.NextLines.{passes_one}
 use Rattle.av_check.proofs.reading.lines.Lines.pass_over.Goals as goal
