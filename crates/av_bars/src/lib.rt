@@ -7,8 +7,6 @@
 mod bars;
 mod dist_bars;
 pub mod laws;
-#[cfg(test)]
-mod tests;
 
 pub use bars::{Bar, Bars};
 pub use dist_bars::{DistBar, DistBars};

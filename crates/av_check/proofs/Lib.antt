@@ -25,7 +25,6 @@ pub mod LeafLoops
 pub mod NameLoops
 pub mod SignTests
 pub mod KeptOutcomes
-pub mod TestedRoots
 pub mod Worked
 pub mod ReadAs
 pub mod Numerals

@@ -4,8 +4,6 @@
 mod cells;
 mod checking;
 mod claim;
-#[cfg(test)]
-mod claim_tests;
 mod fault;
 pub mod laws;
 mod limits;
@@ -14,8 +12,6 @@ mod outcomes;
 mod points;
 mod reading;
 mod roots;
-#[cfg(test)]
-mod tests;
 mod verdict;
 
 pub use checking::check;

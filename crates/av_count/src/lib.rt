@@ -14,8 +14,6 @@ mod links;
 mod numbered;
 mod row;
 mod table;
-#[cfg(test)]
-mod tests;
 
 pub use count::Count;
 pub use numbered::{term, terms};

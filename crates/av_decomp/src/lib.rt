@@ -6,8 +6,6 @@
 
 pub mod laws;
 mod shape;
-#[cfg(test)]
-mod tests;
 mod trees;
 
 pub use shape::{Shape, block, decompose, halves};

@@ -9,8 +9,6 @@ mod embeddings;
 mod fibres;
 pub mod laws;
 mod map;
-#[cfg(test)]
-mod tests;
 
 pub use embeddings::Embeddings;
 pub use fibres::fibre;

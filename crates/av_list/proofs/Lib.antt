@@ -11,4 +11,3 @@ pub mod Writing
 pub mod NextEntry
 pub mod Listings
 pub mod Sieved
-pub mod Taken

@@ -10,8 +10,6 @@ mod derivation;
 mod lister;
 mod sieve;
 mod sizes;
-#[cfg(test)]
-mod tests;
 mod vertex;
 mod walk;
 mod word;

@@ -9,8 +9,6 @@ mod minimal_words;
 mod narrow;
 mod places;
 mod search;
-#[cfg(test)]
-mod tests;
 
 pub use class::avoids_all;
 pub use contained::{Bad, first_bad};

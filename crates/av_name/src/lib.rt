@@ -4,8 +4,6 @@
 mod constraints;
 pub mod laws;
 mod names;
-#[cfg(test)]
-mod tests;
 
 pub use constraints::{Known, add_avoid, add_require, free, known_of};
 pub use names::{satisfies, satisfies_besides};

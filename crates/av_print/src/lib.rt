@@ -31,6 +31,3 @@ pub use systems::put_system;
 pub use text::Text;
 pub use trees::put_tree;
 pub use words::{put_word, put_words};
-
-#[cfg(test)]
-mod tests;

@@ -7,8 +7,6 @@ mod found;
 mod level;
 mod limits;
 mod outcome;
-#[cfg(test)]
-mod tests;
 
 pub use by_length::search;
 pub use extension::extend_level;

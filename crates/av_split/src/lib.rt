@@ -7,10 +7,6 @@ pub mod asked;
 mod boxes;
 /// Questions by number: cells of a table of children by patterns.
 pub mod cells;
-#[cfg(test)]
-mod filter_tests;
-#[cfg(test)]
-mod hand_tests;
 pub mod laws;
 /// The path to a box, which is cut in place and taken back.
 pub mod path;
@@ -23,8 +19,6 @@ mod splitting;
 pub mod steps;
 /// The patterns, which of them contain which, and what a settled one tells of the others.
 pub mod table;
-#[cfg(test)]
-mod tests;
 
 pub use advising::{Advice, advise};
 pub use boxes::{BoxList, SplitBox};

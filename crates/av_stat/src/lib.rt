@@ -7,8 +7,6 @@
 mod by_value;
 mod counts;
 mod stat;
-#[cfg(test)]
-mod tests;
 
 pub use av_bars::{Bar, Bars};
 pub use by_value::histogram;

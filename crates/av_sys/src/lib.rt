@@ -10,8 +10,6 @@ mod check;
 pub mod laws;
 mod names;
 mod terms;
-#[cfg(test)]
-mod tests;
 
 pub use check::is_system_root;
 pub use names::{Constraint, Name, Sign};

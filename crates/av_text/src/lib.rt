@@ -66,6 +66,3 @@ pub use queries::{DistKind, Form, Query};
 pub use script::{Queries, Script, ScriptError, read_script};
 pub use statistics::statistic_name;
 pub use words::read_word;
-
-#[cfg(test)]
-mod tests;

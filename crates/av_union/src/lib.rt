@@ -19,8 +19,6 @@ mod limits;
 mod overlays;
 mod partials;
 mod short;
-#[cfg(test)]
-mod tests;
 mod uniting;
 
 pub use limits::MAX_OVERLAY_LENGTH;

@@ -5,11 +5,7 @@ mod leaves;
 mod literals;
 mod looking;
 mod path;
-#[cfg(test)]
-mod plain_walk;
 mod sifting;
 mod terms;
-#[cfg(test)]
-mod tests;
 
 pub use leaves::{CellEnd, Leaves};

@@ -1,0 +1,2 @@
+pub mod TestedRoots
+pub mod Taken
