@@ -24,7 +24,8 @@ use Rattle.av_split.specs.Boxes.{Question, Box, child_of, added, word_rules, dem
 use Rattle.av_split.specs.Laws.{IsTidy}
 use Rattle.av_split.specs.Marks.{unmarked, once, relates, IsSettled, constraint_of, box_of, free_mark}
 use Rattle.av_split.specs.Cells.{question_at, IsQuestionOf, AreQuestionsOf, IsDemandOf, AreDemandsOf, known_at, IsCellOf, HaveCellsOf, IsStep}
-use Rattle.av_split.specs.Walk.{IsRow, AreRows, IsOpen, AreCuts, IsPath, IsWalk, before, parts_left, parts_of, left_of, CanEnter, AreTurns, IsEntered, Either, GoesBack, Advances, CanStep}
+use Rattle.av_split.specs.Paths.{before, parts_left, parts_of, CanEnter, AreTurns, IsEntered, Either, GoesBack}
+use Rattle.av_split.specs.Walk.{IsRow, AreRows, IsOpen, AreCuts, done_before, last_cut, IsPath, IsWalk, left_of, Advances, CanStep}
 use Rattle.av_split.proofs.GenericSplit.{both_inside, both_outside, both_out, either_inside, either_outside, either_in, turned_open, open_count, Asks as IsAsked, asks, fewer, boxes_outside, boxes_inside, boxes_more}
 use Rattle.av_split.proofs.WordSplit.{Fine, Apt, word_law, demands_apt}
 use Rattle.av_split.proofs.MarkedRows.{row_fit, settled_is, settled_row, settled_known, free_row, free_is}
@@ -282,8 +283,8 @@ set_back (y ∷ xs) zero x d h = refl
 set_back (y ∷ xs) (suc i) x d h = ap (λ l. y ∷ l) (set_back xs i x d (omega arith))
 
 -- what a turn of the loop keeps, and what it gives
-pub record Advanced (k : ℕ) (ps : List (List ℕ)) (ds : List (Demand Cell)) (all : List (Demand Question)) (parts : List Box) (next : Option Path) (out : List Box) : Type 0 where
-  pub path : (q : Path) → next ≡ Some q → IsPath k ps ds q
+pub record Advanced (k : ℕ) (ps : List (List ℕ)) (ds : List (Demand Cell)) (all : List (Demand Question)) (parts : List Box) (next : Option (Path ℕ)) (out : List Box) : Type 0 where
+  pub path : (q : Path ℕ) → next ≡ Some q → IsPath k ps ds q
   pub boxes : flat_map (boxes_by word_rules all) parts ≡ out ++ left_of all ps next
   pub less : weights all (parts_of ps next) < weights all parts
 
@@ -339,15 +340,15 @@ module _ (π : List ℕ) (A R ps : List (List ℕ)) (ds : List (Demand Cell)) (g
     cell_word cell a = (apt (question_at ps cell) a.asks.there).word
 
     -- the path to a part of the box, after some cuts, and the parts that it leaves for later
-    entered : (r : Bool) (n : ℕ) (cell : Cell) (cuts : List Turn) (q : Path) → Asked cell → n ≤ length ds → all_of (demand_known (known_at rows)) (take n ds) ≡ Inside
+    entered : (r : Bool) (n : ℕ) (cell : Cell) (cuts : List (Turn ℕ)) (q : Path ℕ) → Asked cell → n ≤ length ds → all_of (demand_known (known_at rows)) (take n ds) ≡ Inside
         → next_question (known_at rows) ds ≡ Some cell → AreCuts (length π) ps ds cuts rows → IsEntered r ps cell n rows cuts q
         → IsPath (length π) ps ds q × (parts_of ps (Some q) ≡ word_rules.settle r (box_of ps rows) (question_at ps cell) ∷ (cond r [] (word_rules.settle true (box_of ps rows) (question_at ps cell) ∷ []) ++ parts_left ps cuts rows))
     entered r n cell cuts q a m done next earlier x = (
       record {
         marks = next_rows r (length π) ps rows q.rows.items x.row cell is a.cell_is.child a.cell_is.pattern (cell_word cell a) (cell_open cell a) x.settled x.rows;
-        within = subst (λ l. l ≤ length ds) (sym x.from) m;
+        within = subst (λ l. l ≤ length ds) (sym from) m;
         done =
-            subst (λ l. all_of (demand_known (known_at q.rows.items)) (take l ds) ≡ Inside) (sym x.from)
+            subst (λ l. all_of (demand_known (known_at q.rows.items)) (take l ds) ≡ Inside) (sym from)
             (all_pass Inside (demand_known (known_at rows)) (demand_known (known_at q.rows.items)) (take n ds) inside_open
             (λ d i. demand_pass Inside (known_at rows) (known_at q.rows.items) d inside_open (λ l j c k e. stays d (take_In n ds d i) l j c k (λ o. inside_open (turned_open d.required Inside o)) e)) done);
         safe = λ d i s o.
@@ -363,6 +364,9 @@ module _ (π : List ℕ) (A R ps : List (List ℕ)) (ds : List (Demand Cell)) (g
           (ap (λ l. parts_left ps l q.rows.items) x.turns ∙ ap (λ l. cond r [] (word_rules.settle true (box_of ps l) (question_at ps cell) ∷ []) ++ parts_left ps cuts l) put_back),
     )
       where
+        from : done_before (reverse q.turns.items) ≡ n
+        from = ap done_before x.turns
+
         put_back : set q.rows.items cell.child (get_or rows cell.child []) ≡ rows
         put_back = ap (λ (l : List (List Mark)). set l cell.child (get_or rows cell.child [])) x.rows ∙ set_back rows cell.child x.row [] (can_enter cell a).child
 
@@ -377,29 +381,29 @@ module _ (π : List ℕ) (A R ps : List (List ℕ)) (ds : List (Demand Cell)) (g
         came : (d : Demand Cell) → In d ds → (l : List Cell) → In l d.embeddings → (c : Cell) → In c l → Passes (turned r Outside) (known_at q.rows.items) (known_at rows) c
         came d i l j c m e = let t = tells d i l j c m in once_other r t.0 (known_at rows c) (sym t.1 ∙ e)
 
-        kind : (d : Demand Cell) → q.last ≡ Some d.required → r ≡ d.required
-        kind d s = let e : Some r ≡ Some d.required = sym x.last ∙ s in cc
+        kind : (d : Demand Cell) → last_cut (reverse q.turns.items) ≡ Some d.required → r ≡ d.required
+        kind d s = let e : Some r ≡ Some d.required = sym (ap last_cut x.turns) ∙ s in cc
 
   -- the way back leads to the parts that are left
-  pub back_parts : (turns : List Turn) (rows : List (List Mark)) (next : Option Path) → AreCuts (length π) ps ds turns rows → GoesBack ps turns rows next
-      → ((q : Path) → next ≡ Some q → IsPath (length π) ps ds q) × (parts_of ps next ≡ parts_left ps turns rows)
+  pub back_parts : (turns : List (Turn ℕ)) (rows : List (List Mark)) (next : Option (Path ℕ)) → AreCuts (length π) ps ds turns rows → GoesBack ps turns rows next
+      → ((q : Path ℕ) → next ≡ Some q → IsPath (length π) ps ds q) × (parts_of ps next ≡ parts_left ps turns rows)
   back_parts [] rows next c g = (λ q e. absurd (none (sym g ∙ e)), ap (parts_of ps) g)
   back_parts (t ∷ turns) rows next c g = by t.required (back_parts turns (before t rows) next c.1) g
     where
-      by : (r : Bool) → (GoesBack ps turns (before t rows) next → ((q : Path) → next ≡ Some q → IsPath (length π) ps ds q) × (parts_of ps next ≡ parts_left ps turns (before t rows)))
-          → Either r (GoesBack ps turns (before t rows) next) ((p : Path) × (next ≡ Some p) × IsEntered true ps t.cell t.from (before t rows) turns p)
-          → ((q : Path) → next ≡ Some q → IsPath (length π) ps ds q)
+      by : (r : Bool) → (GoesBack ps turns (before t rows) next → ((q : Path ℕ) → next ≡ Some q → IsPath (length π) ps ds q) × (parts_of ps next ≡ parts_left ps turns (before t rows)))
+          → Either r (GoesBack ps turns (before t rows) next) ((p : Path ℕ) × (next ≡ Some p) × IsEntered true ps t.cell t.state (before t rows) turns p)
+          → ((q : Path ℕ) → next ≡ Some q → IsPath (length π) ps ds q)
           × (parts_of ps next ≡ cond r [] (word_rules.settle true (box_of ps (before t rows)) (question_at ps t.cell) ∷ []) ++ parts_left ps turns (before t rows))
       by true f g = f g
       by false f g =
           let o = c.0 in
-          let e = entered (before t rows) o.marks true t.from t.cell turns g.0 (asked_at (before t rows) o.marks t.cell (o.known, o.next)) o.within o.done o.next c.1 g.2 in (
+          let e = entered (before t rows) o.marks true t.state t.cell turns g.0 (asked_at (before t rows) o.marks t.cell (o.known, o.next)) o.within o.done o.next c.1 g.2 in (
             λ q s. subst (IsPath (length π) ps ds) (some (sym g.1 ∙ s)) e.0,
             ap (parts_of ps) g.1 ∙ e.1,
           )
 
   -- its cells are of the rows
-  pub cuts_turns : (turns : List Turn) (rows : List (List Mark)) → AreCuts (length π) ps ds turns rows → length rows ≡ length π → AreTurns ps turns rows
+  pub cuts_turns : (turns : List (Turn ℕ)) (rows : List (List Mark)) → AreCuts (length π) ps ds turns rows → length rows ≡ length π → AreTurns ps turns rows
   cuts_turns [] rows c n t i = absurd i
   cuts_turns (s ∷ turns) rows c n t i = by i (cuts_turns turns (before s rows) c.1 (long ∙ n) t)
     where
@@ -410,7 +414,7 @@ module _ (π : List ℕ) (A R ps : List (List ℕ)) (ds : List (Demand Cell)) (g
       e = let o = c.0 in can_enter (before s rows) o.marks s.cell (asked_at (before s rows) o.marks s.cell (o.known, o.next))
 
       by : In t (s ∷ turns) → (In t turns → (t.cell.child < length (before s rows)) × (t.cell.pattern < length ps) × (length t.row ≡ length ps)) → (t.cell.child < length rows) × (t.cell.pattern < length ps) × (length t.row ≡ length ps)
-      by (inl q) k = subst (λ (u : Turn). (u.cell.child < length rows) × (u.cell.pattern < length ps) × (length u.row ≡ length ps)) (sym q) (
+      by (inl q) k = subst (λ (u : Turn ℕ). (u.cell.child < length rows) × (u.cell.pattern < length ps) × (length u.row ≡ length ps)) (sym q) (
         let h = e.child in omega (arith, long),
         e.pattern,
         ap length (sym (get_or-set_same rows s.cell.child s.row [] (let h = e.child in omega (arith, long)))) ∙ e.size,
@@ -418,7 +422,7 @@ module _ (π : List ℕ) (A R ps : List (List ℕ)) (ds : List (Demand Cell)) (g
       by (inr j) k = subst (λ m. (t.cell.child < m) × (t.cell.pattern < length ps) × (length t.row ≡ length ps)) long (k j)
 
   -- a step can be taken
-  pub can_step : (p : Path) (s : Step) → IsPath (length π) ps ds p → IsStep s (demands_known (known_at p.rows.items) ds) (next_question (known_at p.rows.items) ds) → CanStep ps p s
+  pub can_step : (p : Path ℕ) (s : Step) → IsPath (length π) ps ds p → IsStep s (demands_known (known_at p.rows.items) ds) (next_question (known_at p.rows.items) ds) → CanStep ps p s
   can_step p s i e = by s e
     where
       turns : AreTurns ps p.turns.items p.rows.items
@@ -433,7 +437,7 @@ module _ (π : List ℕ) (A R ps : List (List ℕ)) (ds : List (Demand Cell)) (g
       by (Asks cell) e = can_enter p.rows.items i.marks cell (asked_at p.rows.items i.marks cell e)
 
   -- a turn of the loop
-  pub turn : (p : Path) (n : ℕ) (s : Step) (next : Option Path) (found : Option Box) → IsPath (length π) ps ds p → n ≤ length ds → all_of (demand_known (known_at p.rows.items)) (take n ds) ≡ Inside
+  pub turn : (p : Path ℕ) (n : ℕ) (s : Step) (next : Option (Path ℕ)) (found : Option Box) → IsPath (length π) ps ds p → n ≤ length ds → all_of (demand_known (known_at p.rows.items)) (take n ds) ≡ Inside
       → IsStep s (demands_known (known_at p.rows.items) ds) (next_question (known_at p.rows.items) ds) → Advances ps s n p found next → Advanced (length π) ps ds (demands π A R) (parts_of ps (Some p)) next (given found)
   turn p n s next found i m done step v = by s step v
     where
@@ -456,7 +460,7 @@ module _ (π : List ℕ) (A R ps : List (List ℕ)) (ds : List (Demand Cell)) (g
             less = let w = ap (weights all) r.1 in omega (arith, w, weight_some (open_count (word_rules.known b) (questions_of all)));
           }
 
-      cut : (cell : Cell) → Asked p.rows.items i.marks cell → next_question (known_at p.rows.items) ds ≡ Some cell → (q : Path) → next ≡ Some q → found ≡ None → IsEntered false ps cell n p.rows.items (reverse p.turns.items) q
+      cut : (cell : Cell) → Asked p.rows.items i.marks cell → next_question (known_at p.rows.items) ds ≡ Some cell → (q : Path ℕ) → next ≡ Some q → found ≡ None → IsEntered false ps cell n p.rows.items (reverse p.turns.items) q
           → Advanced (length π) ps ds (demands π A R) (parts_of ps (Some p)) next (given found)
       cut cell a o q e f x =
           let c = entered p.rows.items i.marks false n cell (reverse p.turns.items) q a m done o i.cuts x in
@@ -488,19 +492,19 @@ module _ (π : List ℕ) (A R ps : List (List ℕ)) (ds : List (Demand Cell)) (g
       by (Asks cell) e v = cut cell (asked_at p.rows.items i.marks cell e) e.1 v.1 v.2 v.0 v.3
 
 -- a turn of the walk
-pub record Walked (π : List ℕ) (A R ps : List (List ℕ)) (ds : List (Demand Cell)) (rest next : Option Path) (found : Option Box) : Type 0 where
+pub record Walked (π : List ℕ) (A R ps : List (List ℕ)) (ds : List (Demand Cell)) (rest next : Option (Path ℕ)) (found : Option Box) : Type 0 where
   pub walk : IsWalk π A R ps ds next
   pub left : left_of (demands π A R) ps rest ≡ given found ++ left_of (demands π A R) ps next
   pub less : weights (demands π A R) (parts_of ps next) < weights (demands π A R) (parts_of ps rest)
 
-module _ (π : List ℕ) (A R ps : List (List ℕ)) (ds : List (Demand Cell)) (rest : Option Path) (p : Path) (w : IsWalk π A R ps ds rest) (e : rest ≡ Some p) where
+module _ (π : List ℕ) (A R ps : List (List ℕ)) (ds : List (Demand Cell)) (rest : Option (Path ℕ)) (p : Path ℕ) (w : IsWalk π A R ps ds rest) (e : rest ≡ Some p) where
   pub walk_cells : HaveCellsOf p.rows.items ds
   walk_cells = cells_there π A R ps ds w.avoid w.require w.asked p.rows.items (w.path p e).marks
 
   pub walk_step : (s : Step) → IsStep s (demands_known (known_at p.rows.items) ds) (next_question (known_at p.rows.items) ds) → CanStep ps p s
   walk_step s = can_step π A R ps ds w.avoid w.require w.asked p s (w.path p e)
 
-  pub walk_turn : (n : ℕ) (s : Step) (next : Option Path) (found : Option Box) → n ≤ length ds → all_of (demand_known (known_at p.rows.items)) (take n ds) ≡ Inside
+  pub walk_turn : (n : ℕ) (s : Step) (next : Option (Path ℕ)) (found : Option Box) → n ≤ length ds → all_of (demand_known (known_at p.rows.items)) (take n ds) ≡ Inside
       → IsStep s (demands_known (known_at p.rows.items) ds) (next_question (known_at p.rows.items) ds) → Advances ps s n p found next → Walked π A R ps ds rest next found
   walk_turn n s next found m done step v =
       let t = turn π A R ps ds w.avoid w.require w.asked p n s next found (w.path p e) m done step v in
@@ -523,9 +527,9 @@ free_box zero ps = refl
 free_box (suc k) ps = ap₂ (λ (c : Constraint) (b : Box). c ∷ b) (free_is ps) (free_box k ps)
 
 -- at the start the path leads to it, with no cut
-pub starts : (π : List ℕ) (A R ps : List (List ℕ)) (ds : List (Demand Cell)) (p : Path) (n : ℕ) → Each IsWord A → Each IsWord R → AreDemandsOf (length π) ps ds (demands π A R) → n ≡ length π
-    → p.rows.items ≡ replicate n (map free_mark ps) → p.from ≡ 0 → p.last ≡ None → p.turns.items ≡ [] → IsWalk π A R ps ds (Some p) × (left_of (demands π A R) ps (Some p) ≡ boxes π A R)
-starts π A R ps ds p n ga gr asked l r f z t =
+pub starts : (π : List ℕ) (A R ps : List (List ℕ)) (ds : List (Demand Cell)) (p : Path ℕ) (n : ℕ) → Each IsWord A → Each IsWord R → AreDemandsOf (length π) ps ds (demands π A R) → n ≡ length π
+    → p.rows.items ≡ replicate n (map free_mark ps) → p.turns.items ≡ [] → IsWalk π A R ps ds (Some p) × (left_of (demands π A R) ps (Some p) ≡ boxes π A R)
+starts π A R ps ds p n ga gr asked l r t =
     let is : p.rows.items ≡ replicate (length π) (map free_mark ps) = r ∙ ap (λ m. replicate m (map free_mark ps)) l in (
       record {
         avoid = ga;
@@ -533,10 +537,10 @@ starts π A R ps ds p n ga gr asked l r f z t =
         asked = asked;
         path = λ q e. subst (IsPath (length π) ps ds) (some e) (record {
           marks = subst (AreRows (length π) ps) (sym is) (free_rows (length π) ps);
-          within = omega (arith, f);
-          done = ap (λ m. all_of (demand_known (known_at p.rows.items)) (take m ds)) f;
-          safe = λ d j s o. none (sym z ∙ s);
-          cuts = subst (λ l. AreCuts (length π) ps ds (reverse l) p.rows.items) (sym t) tt;
+          within = let f = ap (λ (l : List (Turn ℕ)). done_before (reverse l)) t in omega (arith, f);
+          done = ap (λ (l : List (Turn ℕ)). all_of (demand_known (known_at p.rows.items)) (take (done_before (reverse l)) ds)) t;
+          safe = λ d j s o. none (sym (ap (λ (l : List (Turn ℕ)). last_cut (reverse l)) t) ∙ s);
+          cuts = subst (λ (l : List (Turn ℕ)). AreCuts (length π) ps ds (reverse l) p.rows.items) (sym t) tt;
         });
       },
       ap (λ l. boxes_by word_rules (demands π A R) (box_of ps p.rows.items) ++ flat_map (boxes_by word_rules (demands π A R)) (parts_left ps (reverse l) p.rows.items)) t

@@ -1,6 +1,6 @@
 -- The walk over the boxes: the path to the present one, and which boxes are left.
 use Rattle.std.specs.List.{flat_map}
-use Rattle.std.specs.Prelude.{◌≡◌, ℕ, ◌<◌, ◌≤◌, true, false, cond, List, [], ◌∷◌, ◌++◌, Bool, length, take, reverse, get_or, set, Option, Some, None, Result, Ok, Err}
+use Rattle.std.specs.Prelude.{◌≡◌, ℕ, ◌<◌, ◌≤◌, false, List, [], ◌∷◌, Bool, length, take, reverse, get_or, Option, Some, None, Result, Ok, Err}
 use Rattle.av_perm.specs.declared.words.Memory.{Memory}
 use Rattle.av_perm.specs.Members.{In}
 use Rattle.av_perm.specs.Relations.{IsWord}
@@ -15,8 +15,9 @@ use Rattle.av_split.specs.declared.steps.Step.TheVariants.{Holds, Fails, Asks}
 use Rattle.av_split.specs.Split.{Demand, demand_known, demands_known, next_question, all_of, boxes_by}
 use Rattle.av_split.specs.Boxes.{Question, Box, word_rules, demands}
 use Rattle.av_split.specs.Laws.{IsTidy}
-use Rattle.av_split.specs.Marks.{unmarked, IsSettled, constraint_of, box_of}
-use Rattle.av_split.specs.Cells.{AreDemandsOf, question_at, known_at, AreSafe}
+use Rattle.av_split.specs.Marks.{unmarked, constraint_of, box_of}
+use Rattle.av_split.specs.Cells.{AreDemandsOf, known_at, AreSafe}
+use Rattle.av_split.specs.Paths.{before, parts_of, CanEnter, AreTurns, IsEntered, GoesBack}
 
 -- the marks of a child are what its constraint tells of the patterns
 pub record IsRow (ps : List (List ℕ)) (row : List Mark) : Type 0 where
@@ -32,10 +33,6 @@ pub record AreRows (k : ℕ) (ps : List (List ℕ)) (rows : List (List Mark)) : 
   pub count : length rows ≡ k
   pub each : (i : ℕ) → i < k → IsRow ps (get_or rows i [])
 
--- the rows of a box before it was cut
-abbrev pub before : Turn → List (List Mark) → List (List Mark)
-before t rows = set rows t.cell.child t.row
-
 -- the first open cell of an open box of `k` children, in which so many demands are done
 pub record IsOpen (k : ℕ) (ps : List (List ℕ)) (asked : List (Demand Cell)) (rows : List (List Mark)) (n : ℕ) (cell : Cell) : Type 0 where
   pub marks : AreRows k ps rows
@@ -45,76 +42,47 @@ pub record IsOpen (k : ℕ) (ps : List (List ℕ)) (asked : List (Demand Cell)) 
   pub done : all_of (demand_known (known_at rows)) (take n asked) ≡ Inside
 
 -- each cut of a path, from the last one on, was of an open box by its first open cell
-abbrev pub AreCuts : ℕ → List (List ℕ) → List (Demand Cell) → List Turn → List (List Mark) → Type 0
+abbrev pub AreCuts : ℕ → List (List ℕ) → List (Demand Cell) → List (Turn ℕ) → List (List Mark) → Type 0
 AreCuts k ps asked [] rows = Unit {0}
-AreCuts k ps asked (t ∷ turns) rows = IsOpen k ps asked (before t rows) t.from t.cell × AreCuts k ps asked turns (before t rows)
+AreCuts k ps asked (t ∷ turns) rows = IsOpen k ps asked (before t rows) t.state t.cell × AreCuts k ps asked turns (before t rows)
+
+-- so many demands were done before the last cut, from which on the cuts are given
+abbrev pub done_before : List (Turn ℕ) → ℕ
+done_before [] = 0
+done_before (t ∷ turns) = t.state
+
+-- what was required or avoided at the last cut, if there is one
+abbrev pub last_cut : List (Turn ℕ) → Option Bool
+last_cut [] = None
+last_cut (t ∷ turns) = Some t.required
 
 -- a path to a box of `k` children
-pub record IsPath (k : ℕ) (ps : List (List ℕ)) (asked : List (Demand Cell)) (p : Path) : Type 0 where
+pub record IsPath (k : ℕ) (ps : List (List ℕ)) (asked : List (Demand Cell)) (p : Path ℕ) : Type 0 where
   pub marks : AreRows k ps p.rows.items
-  pub within : p.from ≤ length asked
-  pub done : all_of (demand_known (known_at p.rows.items)) (take p.from asked) ≡ Inside
-  pub safe : AreSafe p.last (demand_known (known_at p.rows.items)) asked
+  pub within : done_before (reverse p.turns.items) ≤ length asked
+  pub done : all_of (demand_known (known_at p.rows.items)) (take (done_before (reverse p.turns.items)) asked) ≡ Inside
+  pub safe : AreSafe (last_cut (reverse p.turns.items)) (demand_known (known_at p.rows.items)) asked
   pub cuts : AreCuts k ps asked (reverse p.turns.items) p.rows.items
 
--- the parts that a path leaves for later, from its last cut on
-abbrev pub parts_left : List (List ℕ) → List Turn → List (List Mark) → List Box
-parts_left ps [] rows = []
-parts_left ps (t ∷ turns) rows = cond t.required [] (word_rules.settle true (box_of ps (before t rows)) (question_at ps t.cell) ∷ []) ++ parts_left ps turns (before t rows)
-
--- the box that a path leads to, and the parts that it leaves for later
-abbrev pub parts_of : List (List ℕ) → Option Path → List Box
-parts_of ps None = []
-parts_of ps (Some p) = box_of ps p.rows.items ∷ parts_left ps (reverse p.turns.items) p.rows.items
-
 -- the boxes that they give
-abbrev pub left_of : List (Demand Question) → List (List ℕ) → Option Path → List Box
+abbrev pub left_of : List (Demand Question) → List (List ℕ) → Option (Path ℕ) → List Box
 left_of ds ps p = flat_map (boxes_by word_rules ds) (parts_of ps p)
 
 -- the path, unless none is left, is of a root and a name, whose demands have these cells
-pub record IsWalk (π : List ℕ) (A R ps : List (List ℕ)) (cells : List (Demand Cell)) (p : Option Path) : Type 0 where
+pub record IsWalk (π : List ℕ) (A R ps : List (List ℕ)) (cells : List (Demand Cell)) (p : Option (Path ℕ)) : Type 0 where
   pub avoid : (w : List ℕ) → In w A → IsWord w
   pub require : (w : List ℕ) → In w R → IsWord w
   pub asked : AreDemandsOf (length π) ps cells (demands π A R)
-  pub path : (q : Path) → p ≡ Some q → IsPath (length π) ps cells q
-
--- a cell is one of the rows
-pub record CanEnter (ps : List (List ℕ)) (rows : List (List Mark)) (cell : Cell) : Type 0 where
-  pub child : cell.child < length rows
-  pub pattern : cell.pattern < length ps
-  pub size : length (get_or rows cell.child []) ≡ length ps
-
--- the cells of cuts are of the rows
-abbrev pub AreTurns : List (List ℕ) → List Turn → List (List Mark) → Type 0
-AreTurns ps turns rows = (t : Turn) → In t turns → (t.cell.child < length rows) × (t.cell.pattern < length ps) × (length t.row ≡ length ps)
-
--- a path once the box with these rows, after these cuts, is cut by a cell, of which the pattern is required then, or avoided
-pub record IsEntered (required : Bool) (ps : List (List ℕ)) (cell : Cell) (n : ℕ) (marks : List (List Mark)) (cuts : List Turn) (next : Path) : Type 0 where
-  pub row : List Mark
-  pub settled : IsSettled required ps cell.pattern (get_or marks cell.child []) row
-  pub rows : next.rows.items ≡ set marks cell.child row
-  pub from : next.from ≡ n
-  pub last : next.last ≡ Some required
-  pub turns : reverse next.turns.items ≡ record { cell = cell; row = get_or marks cell.child []; from = n; required = required } ∷ cuts
-
--- one of two
-abbrev pub Either : Bool → Type 0 → Type 0 → Type 0
-Either true X Y = X
-Either false X Y = Y
-
--- the way back along cuts, from the last one on, to the first that leaves a part for later, which is entered
-abbrev pub GoesBack : List (List ℕ) → List Turn → List (List Mark) → Option Path → Type 0
-GoesBack ps [] rows next = next ≡ None
-GoesBack ps (t ∷ turns) rows next = Either t.required (GoesBack ps turns (before t rows) next) ((p : Path) × (next ≡ Some p) × IsEntered true ps t.cell t.from (before t rows) turns p)
+  pub path : (q : Path ℕ) → p ≡ Some q → IsPath (length π) ps cells q
 
 -- a box is given, dropped or cut
-abbrev pub Advances : List (List ℕ) → Step → ℕ → Path → Option Box → Option Path → Type 0
+abbrev pub Advances : List (List ℕ) → Step → ℕ → Path ℕ → Option Box → Option (Path ℕ) → Type 0
 Advances ps Holds n p found next = (found ≡ Some (box_of ps p.rows.items)) × GoesBack ps (reverse p.turns.items) p.rows.items next
 Advances ps Fails n p found next = (found ≡ None) × GoesBack ps (reverse p.turns.items) p.rows.items next
-Advances ps (Asks cell) n p found next = (found ≡ None) × (q : Path) × (next ≡ Some q) × IsEntered false ps cell n p.rows.items (reverse p.turns.items) q
+Advances ps (Asks cell) n p found next = (found ≡ None) × (q : Path ℕ) × (next ≡ Some q) × IsEntered false ps cell n p.rows.items (reverse p.turns.items) q
 
 -- a step can be taken
-abbrev pub CanStep : List (List ℕ) → Path → Step → Type 0
+abbrev pub CanStep : List (List ℕ) → Path ℕ → Step → Type 0
 CanStep ps p Holds = ((i : ℕ) → i < length p.rows.items → length (get_or p.rows.items i []) ≡ length ps) × AreTurns ps p.turns.items p.rows.items
 CanStep ps p Fails = ((i : ℕ) → i < length p.rows.items → length (get_or p.rows.items i []) ≡ length ps) × AreTurns ps p.turns.items p.rows.items
 CanStep ps p (Asks cell) = CanEnter ps p.rows.items cell

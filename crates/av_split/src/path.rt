@@ -1,6 +1,6 @@
 // The path from the box in which nothing is avoided or required to the one that is looked at.
 ghost use Rattle.std.specs.Prelude.{reverse, IfOk};
-ghost use Rattle.av_split.specs.Walk.{CanEnter, IsEntered, GoesBack, AreTurns};
+ghost use Rattle.av_split.specs.Paths.{CanEnter, IsEntered, GoesBack, AreTurns};
 
 use crate::cells::Cell;
 use crate::rows::Row;
@@ -10,37 +10,33 @@ use std::mem;
 
 /// A box that was cut by the question of a cell, and which of its parts is on the path.
 #[derive(Drop)]
-pub struct Turn {
+pub struct Turn<S> {
     pub cell: Cell,
     /// The row of the cell's child before the cut.
     pub row: Row,
-    /// So many demands are done in the box.
-    pub from: usize,
+    /// What is remembered of the box.
+    pub state: S,
     /// Whether the part in which the pattern of the cell is required is on the path; the other one comes before it.
     pub required: bool,
 }
 
 /// A box, by the rows of its children, and the cuts that lead to it, with the last one last.
 #[derive(Drop)]
-pub struct Path {
+pub struct Path<S> {
     pub rows: Vec<Row>,
-    /// So many demands are done in the box.
-    pub from: usize,
-    /// Whether a word was required or avoided at the last cut: no demand to contain a word, or to avoid one, is broken.
-    pub last: Option<bool>,
-    pub turns: Vec<Turn>,
+    pub turns: Vec<Turn<S>>,
 }
 
 /// The path to a part of the box that it leads to.
-pub fn enter(
+pub fn enter<S: Drop>(
     table: &Table,
     required: bool,
     cell: Cell,
-    from: usize,
-    path: Path,
-) -> Result<Path, Memory>
+    state: S,
+    path: Path<S>,
+) -> Result<Path<S>, Memory>
     requires { CanEnter table.now path.rows.items cell }
-    ensures { IfOk result (λ next. IsEntered required table.now cell from path.rows.items (reverse path.turns.items) next) }
+    ensures { IfOk result (λ next. IsEntered required table.now cell state path.rows.items (reverse path.turns.items) next) }
 {
     let mut path = path;
     let mut row = path.rows[cell.child].copy()?;
@@ -50,28 +46,29 @@ pub fn enter(
         .push(Turn {
             cell,
             row: old,
-            from,
+            state,
             required,
         })
         .map_err(|_| Memory)?;
-    Ok(Path {
-        rows: path.rows,
-        from,
-        last: Some(required),
-        turns: path.turns,
-    })
+    Ok(path)
 }
 
 /// The path to the next part that is left, of the last box with one, if there is one.
-pub fn back(table: &Table, path: Path) -> Result<Option<Path>, Memory>
+pub fn back<S: Drop>(table: &Table, path: Path<S>) -> Result<Option<Path<S>>, Memory>
     requires { AreTurns table.now path.turns.items path.rows.items }
     ensures { IfOk result (λ next. GoesBack table.now (reverse path.turns.items) path.rows.items next) }
 {
     let mut path = path;
     while let Some(turn) = path.turns.pop() {
-        path.rows[turn.cell.child] = turn.row;
-        if !turn.required {
-            return Ok(Some(enter(table, true, turn.cell, turn.from, path)?));
+        let Turn {
+            cell,
+            row,
+            state,
+            required,
+        } = turn;
+        path.rows[cell.child] = row;
+        if !required {
+            return Ok(Some(enter(table, true, cell, state, path)?));
         }
     }
     Ok(None)

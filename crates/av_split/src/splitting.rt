@@ -24,7 +24,7 @@ pub struct Boxes<'a> {
     table: Table,
     asked: CellDemands,
     // The path to the box that is looked at next, unless none is left.
-    path: Option<Path>,
+    path: Option<Path<usize>>,
 }
 
 impl<'a> Model for Boxes<'a> {
@@ -64,8 +64,6 @@ impl<'a> Boxes<'a> {
         let table = Table::of(alloc, patterns)?;
         let path = Path {
             rows: table.free(alloc, root.len())?,
-            from: 0,
-            last: None,
             turns: Vec::new(alloc),
         };
         Ok(Boxes {
@@ -110,8 +108,8 @@ fn find(
     name: &Name,
     table: &Table,
     asked: &CellDemands,
-    path: Option<Path>,
-) -> Result<(Option<SplitBox>, Option<Path>), Memory>
+    path: Option<Path<usize>>,
+) -> Result<(Option<SplitBox>, Option<Path<usize>>), Memory>
     requires { IsWalk root.now name.now.avoid name.now.require table.now asked.now path }
     ensures walk { IfOk result (λ r. IsWalk root.now name.now.avoid name.now.require table.now asked.now r.1) }
     ensures takes { IfOk result (λ r. Takes r.0 (left_of (demands root.now name.now.avoid name.now.require) table.now path) (left_of (demands root.now name.now.avoid name.now.require) table.now r.1)) }
@@ -134,9 +132,9 @@ fn advance(
     alloc: Global,
     step: Step,
     from: usize,
-    path: Path,
+    path: Path<usize>,
     table: &Table,
-) -> Result<(Option<SplitBox>, Option<Path>), Memory>
+) -> Result<(Option<SplitBox>, Option<Path<usize>>), Memory>
     requires { CanStep table.now path step }
     ensures { IfOk result (λ r. Advances table.now step from path r.0 r.1) }
 {

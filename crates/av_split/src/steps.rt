@@ -1,8 +1,9 @@
 // What is known of the demands in a box, and what to ask next.
-ghost use Rattle.std.specs.Prelude.{◌≡◌, ◌<◌, ◌≤◌, ◌+◌, Some, Option, true, false, length, take, drop};
+ghost use Rattle.std.specs.Prelude.{◌≡◌, ◌<◌, ◌≤◌, ◌+◌, Some, Option, true, false, length, reverse, take, drop};
 ghost use Rattle.av_name.specs.declared.constraints.Known.{Known};
 ghost use Rattle.av_split.specs.Split.{all_of, some_of, demand_known, demands_known, first_open, next_question};
 ghost use Rattle.av_split.specs.Cells.{known_at, IsCellOf, AreCellsOf, HasCellsOf, HaveCellsOf, IsStep, first_cell, IsFirst, AreSafe, or_first, step_or, turned_step};
+ghost use Rattle.av_split.specs.Walk.{done_before, last_cut};
 ghost use Rattle.av_split.specs.declared.cells.Cell.{Cell};
 
 use crate::cells::{Cell, CellDemand, CellDemands, Cells};
@@ -196,14 +197,18 @@ pub fn rows_step(
 }
 
 /// The same of the box that a path leads to.
-pub fn next_step(path: &Path, demands: &CellDemands) -> (usize, Step)
+pub fn next_step(path: &Path<usize>, demands: &CellDemands) -> (usize, Step)
     requires cells { HaveCellsOf path.now.rows.items demands.now }
-    requires within { path.now.from ≤ length demands.now }
-    requires done { all_of (demand_known (known_at path.now.rows.items)) (take path.now.from demands.now) ≡ Known.Inside }
-    requires safe { AreSafe path.now.last (demand_known (known_at path.now.rows.items)) demands.now }
+    requires within { done_before (reverse path.now.turns.items) ≤ length demands.now }
+    requires done { all_of (demand_known (known_at path.now.rows.items)) (take (done_before (reverse path.now.turns.items)) demands.now) ≡ Known.Inside }
+    requires safe { AreSafe (last_cut (reverse path.now.turns.items)) (demand_known (known_at path.now.rows.items)) demands.now }
     ensures within { result.0 ≤ length demands.now }
     ensures done { all_of (demand_known (known_at path.now.rows.items)) (take result.0 demands.now) ≡ Known.Inside }
     ensures step { IsStep result.1 (demands_known (known_at path.now.rows.items) demands.now) (next_question (known_at path.now.rows.items) demands.now) }
 {
-    rows_step(&path.rows, path.from, path.last, demands)
+    let rows: &[Row] = &path.rows;
+    match path.turns.last() {
+        None => rows_step(rows, 0, None, demands),
+        Some(turn) => rows_step(rows, turn.state, Some(turn.required), demands),
+    }
 }

@@ -1,7 +1,8 @@
 -- What is left stays the same; each turn lowers the weight of the parts.
 use Rattle.std.proofs.Common.{◌≡◌}
 use Rattle.av_split.specs.Boxes.{demands}
-use Rattle.av_split.specs.Walk.{IsWalk, parts_of, left_of}
+use Rattle.av_split.specs.Paths.{parts_of}
+use Rattle.av_split.specs.Walk.{IsWalk, left_of}
 use Rattle.av_split.proofs.Cutting.{weights}
 use Rattle.av_split.proofs.splitting.find.Given as goal
 
