@@ -1,19 +1,17 @@
 -- What becomes of a box where the demands are settled, and where they are open.
-use Rattle.std.proofs.Common.{◌≡◌, ℕ, zero, suc, ◌-◌, ◌≤◌, min, Bool, true, false, List, [], ◌∷◌, ◌++◌, length, reverse, slice_get, Option, Some, None, refl, sym, ap, ap₂, ◌∙◌, subst, arith}
-use Rattle.std.proofs.lemmas.List.{reverse-append}
+use Rattle.std.proofs.Common.{◌≡◌, ℕ, zero, suc, ◌≤◌, min, Bool, true, false, List, Option, Some, None, refl, sym, ap, ap₂, ◌∙◌, subst, arith}
 use Rattle.av_name.specs.declared.constraints.Known.{Known}
 use Rattle.av_name.specs.declared.constraints.Known.TheVariants.{Open}
 use Rattle.av_split.specs.declared.cells.Cell.{Cell}
 use Rattle.av_split.specs.Split.{Demand, demands_known, next_question}
-use Rattle.av_walk.specs.declared.path.State.{State}
-use Rattle.av_walk.specs.declared.path.Turn.{Turn}
+use Rattle.av_walk.specs.declared.looking.State.{State}
 use Rattle.av_walk.specs.declared.sifting.Sifted.{Sifted}
 use Rattle.av_walk.specs.declared.looking.Kind.TheVariants as kinds
 use Rattle.av_walk.specs.declared.looking.Look.{Look}
 use Rattle.av_walk.specs.declared.looking.Look.TheVariants as looks
 use Rattle.av_walk.specs.Walk.{Literal, term_known, inside_count, next_of_terms, splits, treated}
 use Rattle.av_walk.specs.Sifts.{picked, AreAlive, IsSifted}
-use Rattle.av_walk.specs.Paths.{treatment_at, settled, IsKnownBy, IsOpenBy, IsSafeBy, Inherits}
+use Rattle.av_walk.specs.Paths.{treatment_at, settled, IsKnownBy, IsOpenBy}
 use Rattle.av_walk.specs.Looks.{cut_or, settled_cell, LooksAt, Looks, IsLook}
 use Rattle.av_walk.proofs.Living.{alive_alive, alive_count, alive_next}
 
@@ -100,18 +98,3 @@ looks_at done f ds ts numbers s look k a i l = by look l
 -- of an open one
 pub opens : (f : Cell → Known) (ds : List (Demand Cell)) (ts : List (List (Literal Cell))) (cell : Cell) → demands_known f ds ≡ Open → next_question f ds ≡ Some cell → treatment_at f ds ts ≡ splits cell
 opens f ds ts cell k n = ap₂ (λ (known : Known) (o : Option Cell). treated known (inside_count f ts) (next_of_terms f ts) o) k n
-
--- the last item comes first from the back
-last_of : {A : Type 0} (xs : List A) (x : A) → slice_get xs (length xs - 1) ≡ Some x → (front : List A) × (xs ≡ front ++ x ∷ [])
-last_of [] x e = absurd (cc)
-last_of (y ∷ []) x e = ([], let i : y ≡ x = cc in ap (λ z. z ∷ []) i)
-last_of (y ∷ z ∷ xs) x e =
-    let m : suc (length (z ∷ xs)) - 1 ≡ suc (length (z ∷ xs) - 1) = omega arith in
-    let d : slice_get (y ∷ z ∷ xs) (suc (length (z ∷ xs) - 1)) ≡ Some x = subst (λ i. slice_get (y ∷ z ∷ xs) i ≡ Some x) m e in
-    let r = last_of (z ∷ xs) x d in
-    (y ∷ r.0, ap (λ l. y ∷ l) r.1)
-
--- what a path inherits from its last cut
-pub inherits_last : (f : Cell → Known) (ds : List (Demand Cell)) (ts : List (List (Literal Cell))) (turns : List Turn) (t : Turn) → slice_get turns (length turns - 1) ≡ Some t → Inherits f ds ts (reverse turns)
-    → IsKnownBy f ds ts t.state × IsSafeBy f ds t.required t.state
-inherits_last f ds ts turns t e h = let l = last_of turns t e in subst (Inherits f ds ts) (ap (λ (l : List Turn). reverse l) l.1 ∙ reverse-append l.0 (t ∷ [])) h

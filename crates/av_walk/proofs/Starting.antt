@@ -25,11 +25,13 @@ use Rattle.av_split.specs.Cells.{AreDemandsOf, known_at}
 use Rattle.av_split.specs.Walk.{AreRows}
 use Rattle.av_split.proofs.WordSplit.{Apt, demands_apt}
 use Rattle.av_split.proofs.Cutting.{free_rows, free_box, some}
-use Rattle.av_walk.specs.declared.path.Path.{Path}
+use Rattle.av_split.specs.declared.path.Path.{Path}
+use Rattle.av_walk.specs.declared.looking.State.{State}
 use Rattle.av_walk.specs.Walk.{Literal, Leaf, walk}
 use Rattle.av_walk.specs.Leaves.{name_of_equation, names_at, names_of_root, asks, child_literals, literals, leaves_of}
 use Rattle.av_walk.specs.Numbers.{IsLiteralOf, AreLiteralsOf, AreTermsOf}
-use Rattle.av_walk.specs.Paths.{asked_of, IsAptLiteral, AreCuts, Inherits, IsPath, IsWalk, parts_left, left_of}
+use Rattle.av_split.specs.Paths.{parts_left}
+use Rattle.av_walk.specs.Paths.{asked_of, IsAptLiteral, AreCuts, Inherits, IsPath, IsWalk, left_of}
 use Rattle.av_walk.proofs.GenericWalk.{questions_with}
 
 -- what a name asks is about words
@@ -106,7 +108,7 @@ apt_questions π A R us ga gr h q i = elim (In_append_cases (questions_of (deman
 ]
 
 -- at the start the path leads to that box, with no cut
-pub starts : (S : System) (root : List ℕ) (e : Equation) (ps : List (List ℕ)) (ds : List (Demand Cell)) (ts : List (List (Literal Cell))) (p : Path) → Each IsWord e.name.avoid → Each IsWord e.name.require → All (λ (e : Equation). IsMadeOfWords e.name) S.equations
+pub starts : (S : System) (root : List ℕ) (e : Equation) (ps : List (List ℕ)) (ds : List (Demand Cell)) (ts : List (List (Literal Cell))) (p : Path State) → Each IsWord e.name.avoid → Each IsWord e.name.require → All (λ (e : Equation). IsMadeOfWords e.name) S.equations
     → AreDemandsOf (length root) ps ds (demands root e.name.avoid e.name.require) → AreTermsOf (length root) ps ts (asked_of S root e) → p.rows.items ≡ replicate (length root) (map free_mark ps) → p.turns.items ≡ []
     → IsWalk root e.name.avoid e.name.require (asked_of S root e) ps ds ts (Some p) × (left_of (demands root e.name.avoid e.name.require) (asked_of S root e) ps (Some p) ≡ leaves_of S root e)
 starts S root e ps ds ts p ga gr named cells terms is t = (

@@ -11,8 +11,8 @@ use Rattle.av_split.specs.Marks.{once}
 use Rattle.av_split.specs.Cells.{AreDemandsOf}
 use Rattle.av_split.proofs.GenericSplit.{turned_open}
 use Rattle.av_split.proofs.Cutting.{all_pass, demand_pass, turned_twice, inside_open, outside_open, open_none, once_keeps, once_other, take_In, cell_question}
-use Rattle.av_walk.specs.declared.path.State.{State}
-use Rattle.av_walk.specs.declared.path.State.TheVariants as states
+use Rattle.av_walk.specs.declared.looking.State.{State}
+use Rattle.av_walk.specs.declared.looking.State.TheVariants as states
 use Rattle.av_walk.specs.Walk.{Literal, literal_known, term_known}
 use Rattle.av_walk.specs.Numbers.{IsLiteralOf, AreLiteralsOf, AreTermsOf}
 use Rattle.av_walk.specs.Sifts.{picked}

@@ -13,13 +13,14 @@ use Rattle.av_split.specs.Split.{Demand}
 use Rattle.av_split.specs.Boxes.{Question, Box, word_rules}
 use Rattle.av_split.specs.Marks.{once, box_of}
 use Rattle.av_split.specs.Cells.{question_at, IsQuestionOf, AreDemandsOf, known_at, HaveCellsOf}
-use Rattle.av_split.specs.Walk.{AreRows, CanEnter, Either}
+use Rattle.av_split.specs.Paths.{before, parts_left, parts_of, CanEnter, AreTurns, IsEntered, Either, GoesBack}
+use Rattle.av_split.specs.Walk.{AreRows}
 use Rattle.av_split.proofs.GenericSplit.{open_count}
 use Rattle.av_split.proofs.WordSplit.{Fine, Apt, word_law}
 use Rattle.av_split.proofs.Cutting.{cell_known, rows_fine, question_cell, cell_question, next_box, next_rows, next_known, set_back, none, some, In_reverse, weight, weight_two, weight_some}
-use Rattle.av_walk.specs.declared.path.Path.{Path}
-use Rattle.av_walk.specs.declared.path.State.{State}
-use Rattle.av_walk.specs.declared.path.Turn.{Turn}
+use Rattle.av_split.specs.declared.path.Path.{Path}
+use Rattle.av_walk.specs.declared.looking.State.{State}
+use Rattle.av_split.specs.declared.path.Turn.{Turn}
 use Rattle.av_walk.specs.declared.looking.Kind.{Kind}
 use Rattle.av_walk.specs.declared.looking.Look.{Look}
 use Rattle.av_walk.specs.declared.looking.Look.TheVariants as looks
@@ -28,7 +29,7 @@ use Rattle.av_walk.specs.Walk.{Literal, splits, ends, treatment, Leaf, walk}
 use Rattle.av_walk.specs.Numbers.{IsLiteralOf, AreLiteralsOf, AreTermsOf}
 use Rattle.av_walk.specs.Sifts.{AreCellsOfTerms}
 use Rattle.av_walk.specs.Looks.{ending_of, IsLook}
-use Rattle.av_walk.specs.Paths.{treatment_at, before, IsCut, AreCuts, Inherits, IsPath, parts_left, parts_of, AreTurns, IsEntered, GoesBack}
+use Rattle.av_walk.specs.Paths.{treatment_at, IsCut, AreCuts, Inherits, IsPath}
 use Rattle.av_walk.specs.Ends.{IsEnd, Advances, CanAdvance}
 use Rattle.av_walk.proofs.GenericWalk.{questions_with, splits_asked, falls, walk_leaf_only, walk_parts}
 use Rattle.av_walk.proofs.Treatments.{TreatmentOf, treatment_same, same_end, same_split}
@@ -90,7 +91,7 @@ module _ (k : ℕ) (ps : List (List ℕ)) (ds : List (Demand Cell)) (es : List (
     cell_word cell a = (apt (question_at ps cell) a.there).word
 
     -- the path to a part of the box, after some cuts, and the parts that it leaves for later
-    entered : (r : Bool) (state : State) (cell : Cell) (cuts : List Turn) (q : Path) → IsCut k ps ds ts rows state cell → AreCuts k ps ds ts cuts rows → IsEntered r ps cell state rows cuts q
+    entered : (r : Bool) (state : State) (cell : Cell) (cuts : List (Turn State)) (q : Path State) → IsCut k ps ds ts rows state cell → AreCuts k ps ds ts cuts rows → IsEntered r ps cell state rows cuts q
         → IsPath k ps ds ts q × (parts_of ps (Some q) ≡ word_rules.settle r (box_of ps rows) (question_at ps cell) ∷ (cond r [] (word_rules.settle true (box_of ps rows) (question_at ps cell) ∷ []) ++ parts_left ps cuts rows))
     entered r state cell cuts q c earlier x = (
       record {
@@ -119,13 +120,13 @@ module _ (k : ℕ) (ps : List (List ℕ)) (ds : List (Demand Cell)) (es : List (
         next other h = next_known r k ps rows q.rows.items x.row cell is a.cell_is.child a.cell_is.pattern (cell_word cell a) (cell_open cell a) x.settled x.rows other h
 
   -- the way back leads to the parts that are left
-  back_parts : (turns : List Turn) (rows : List (List Mark)) (next : Option Path) → AreCuts k ps ds ts turns rows → GoesBack ps turns rows next → ((q : Path) → next ≡ Some q → IsPath k ps ds ts q) × (parts_of ps next ≡ parts_left ps turns rows)
+  back_parts : (turns : List (Turn State)) (rows : List (List Mark)) (next : Option (Path State)) → AreCuts k ps ds ts turns rows → GoesBack ps turns rows next → ((q : Path State) → next ≡ Some q → IsPath k ps ds ts q) × (parts_of ps next ≡ parts_left ps turns rows)
   back_parts [] rows next c g = (λ q e. absurd (none (sym g ∙ e)), ap (parts_of ps) g)
   back_parts (t ∷ turns) rows next c g = by t.required (back_parts turns (before t rows) next c.1) g
     where
-      by : (r : Bool) → (GoesBack ps turns (before t rows) next → ((q : Path) → next ≡ Some q → IsPath k ps ds ts q) × (parts_of ps next ≡ parts_left ps turns (before t rows)))
-          → Either r (GoesBack ps turns (before t rows) next) ((p : Path) × (next ≡ Some p) × IsEntered true ps t.cell t.state (before t rows) turns p)
-          → ((q : Path) → next ≡ Some q → IsPath k ps ds ts q)
+      by : (r : Bool) → (GoesBack ps turns (before t rows) next → ((q : Path State) → next ≡ Some q → IsPath k ps ds ts q) × (parts_of ps next ≡ parts_left ps turns (before t rows)))
+          → Either r (GoesBack ps turns (before t rows) next) ((p : Path State) × (next ≡ Some p) × IsEntered true ps t.cell t.state (before t rows) turns p)
+          → ((q : Path State) → next ≡ Some q → IsPath k ps ds ts q)
           × (parts_of ps next ≡ cond r [] (word_rules.settle true (box_of ps (before t rows)) (question_at ps t.cell) ∷ []) ++ parts_left ps turns (before t rows))
       by true f g = f g
       by false f g =
@@ -135,7 +136,7 @@ module _ (k : ℕ) (ps : List (List ℕ)) (ds : List (Demand Cell)) (es : List (
           )
 
   -- its cells are of the rows
-  cuts_turns : (turns : List Turn) (rows : List (List Mark)) → AreCuts k ps ds ts turns rows → length rows ≡ k → AreTurns ps turns rows
+  cuts_turns : (turns : List (Turn State)) (rows : List (List Mark)) → AreCuts k ps ds ts turns rows → length rows ≡ k → AreTurns ps turns rows
   cuts_turns [] rows c n t i = absurd i
   cuts_turns (s ∷ turns) rows c n t i = by i (cuts_turns turns (before s rows) c.1 (long ∙ n) t)
     where
@@ -146,7 +147,7 @@ module _ (k : ℕ) (ps : List (List ℕ)) (ds : List (Demand Cell)) (es : List (
       e = can_enter (before s rows) c.0.marks s.cell (asked_at (before s rows) c.0.marks s.cell c.0.splits)
 
       by : In t (s ∷ turns) → (In t turns → (t.cell.child < length (before s rows)) × (t.cell.pattern < length ps) × (length t.row ≡ length ps)) → (t.cell.child < length rows) × (t.cell.pattern < length ps) × (length t.row ≡ length ps)
-      by (inl q) h = subst (λ (u : Turn). (u.cell.child < length rows) × (u.cell.pattern < length ps) × (length u.row ≡ length ps)) (sym q) (
+      by (inl q) h = subst (λ (u : Turn State). (u.cell.child < length rows) × (u.cell.pattern < length ps) × (length u.row ≡ length ps)) (sym q) (
         let l = e.child in omega (arith, long),
         e.pattern,
         ap length (sym (get_or-set_same rows s.cell.child s.row [] (let l = e.child in omega (arith, long)))) ∙ e.size,
@@ -154,7 +155,7 @@ module _ (k : ℕ) (ps : List (List ℕ)) (ds : List (Demand Cell)) (es : List (
       by (inr j) h = subst (λ m. (t.cell.child < m) × (t.cell.pattern < length ps) × (length t.row ≡ length ps)) long (h j)
 
   -- what was seen can be done
-  pub can_advance : (p : Path) (look : Look) → IsPath k ps ds ts p → IsLook (known_at p.rows.items) ds ts look → CanAdvance ps p look
+  pub can_advance : (p : Path State) (look : Look) → IsPath k ps ds ts p → IsLook (known_at p.rows.items) ds ts look → CanAdvance ps p look
   can_advance p (looks.Ends kind) i e = (
     λ j h. (i.marks.each j (let n = i.marks.count in omega arith)).size,
     λ t j. cuts_turns (reverse p.turns.items) p.rows.items i.cuts i.marks.count t (In_reverse p.turns.items t j),
@@ -162,13 +163,13 @@ module _ (k : ℕ) (ps : List (List ℕ)) (ds : List (Demand Cell)) (es : List (
   can_advance p (looks.Cut cell state) i e = can_enter p.rows.items i.marks cell (asked_at p.rows.items i.marks cell e.0)
 
   -- the leaf that was found is the first of those that were left, or none was found, and the walk is nearer to its end
-  pub record Advanced (parts : List Box) (next : Option Path) (found : Option CellEnd) : Type 0 where
-    pub path : (q : Path) → next ≡ Some q → IsPath k ps ds ts q
+  pub record Advanced (parts : List Box) (next : Option (Path State)) (found : Option CellEnd) : Type 0 where
+    pub path : (q : Path State) → next ≡ Some q → IsPath k ps ds ts q
     pub leaves : Finds found (flat_map (walk word_rules es us) parts) (flat_map (walk word_rules es us) (parts_of ps next))
     pub less : weights es us (parts_of ps next) < weights es us parts
 
   -- a turn of the loop
-  pub turn : (p : Path) (look : Look) (next : Option Path) (found : Option CellEnd) → IsPath k ps ds ts p → IsLook (known_at p.rows.items) ds ts look → Advances ps look p found next → Advanced (parts_of ps (Some p)) next found
+  pub turn : (p : Path State) (look : Look) (next : Option (Path State)) (found : Option CellEnd) → IsPath k ps ds ts p → IsLook (known_at p.rows.items) ds ts look → Advances ps look p found next → Advanced (parts_of ps (Some p)) next found
   turn p look next found i l v = by look l v
     where
       b : Box
@@ -195,7 +196,7 @@ module _ (k : ℕ) (ps : List (List ℕ)) (ds : List (Demand Cell)) (es : List (
             less = let w = ap (weights es us) r.1 in omega (arith, w, weight_some (open_count (word_rules.known b) (questions_with es us)));
           }
 
-      cut : (cell : Cell) (state : State) → IsCut k ps ds ts p.rows.items state cell → (q : Path) → next ≡ Some q → found ≡ None → IsEntered false ps cell state p.rows.items (reverse p.turns.items) q → Advanced (parts_of ps (Some p)) next found
+      cut : (cell : Cell) (state : State) → IsCut k ps ds ts p.rows.items state cell → (q : Path State) → next ≡ Some q → found ≡ None → IsEntered false ps cell state p.rows.items (reverse p.turns.items) q → Advanced (parts_of ps (Some p)) next found
       cut cell state c q e f x =
           let a = asked_at p.rows.items i.marks cell c.splits in
           let h = entered p.rows.items i.marks false state cell (reverse p.turns.items) q c i.cuts x in

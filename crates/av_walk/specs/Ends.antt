@@ -5,19 +5,20 @@ use Rattle.av_sys.specs.declared.terms.Equation.{Equation}
 use Rattle.av_sys.specs.declared.terms.System.{System}
 use Rattle.av_split.specs.Boxes.{Box}
 use Rattle.av_split.specs.Marks.{box_of}
-use Rattle.av_split.specs.Walk.{CanEnter}
-use Rattle.av_walk.specs.declared.path.Path.{Path}
+use Rattle.av_split.specs.Paths.{CanEnter, AreTurns, IsEntered, GoesBack}
+use Rattle.av_split.specs.declared.path.Path.{Path}
 use Rattle.av_walk.specs.declared.looking.Look.{Look}
+use Rattle.av_walk.specs.declared.looking.State.{State}
 use Rattle.av_walk.specs.declared.looking.Look.TheVariants as looks
 use Rattle.av_walk.specs.declared.leaves.CellEnd.{CellEnd}
 use Rattle.av_walk.specs.declared.leaves.CellEnd.TheVariants as cells
 use Rattle.av_walk.specs.declared.leaves.Plan.{Plan}
 use Rattle.av_walk.specs.Walk.{Leaf, good, bare, twice, extra}
 use Rattle.av_walk.specs.Looks.{ending_of, AreAll}
-use Rattle.av_walk.specs.Paths.{asked_of, IsWalk, AreTurns, IsEntered, GoesBack}
+use Rattle.av_walk.specs.Paths.{asked_of, IsWalk}
 
 -- a plan for the walk of a root and an equation of a system, and a path that goes by it
-pub record IsPlanned (S : System) (root : List ℕ) (e : Equation) (plan : Plan) (path : Option Path) : Type 0 where
+pub record IsPlanned (S : System) (root : List ℕ) (e : Equation) (plan : Plan) (path : Option (Path State)) : Type 0 where
   pub walk : IsWalk root e.name.avoid e.name.require (asked_of S root e) plan.table plan.demands plan.terms path
   pub all : AreAll plan.terms plan.all.items
 
@@ -29,13 +30,13 @@ IsEnd cells.Twice l = l.ending ≡ twice
 IsEnd cells.Extra l = l.ending ≡ extra
 
 -- a leaf is given, or a box is cut
-abbrev pub Advances : List (List ℕ) → Look → Path → Option CellEnd → Option Path → Type 0
+abbrev pub Advances : List (List ℕ) → Look → Path State → Option CellEnd → Option (Path State) → Type 0
 Advances ps (looks.Ends kind) p found next =
     ((end : CellEnd) × (found ≡ Some end) × IsEnd end (record { cell = box_of ps p.rows.items; ending = ending_of kind })) × GoesBack ps (reverse p.turns.items) p.rows.items next
-Advances ps (looks.Cut cell state) p found next = (found ≡ None) × (q : Path) × (next ≡ Some q) × IsEntered false ps cell state p.rows.items (reverse p.turns.items) q
+Advances ps (looks.Cut cell state) p found next = (found ≡ None) × (q : Path State) × (next ≡ Some q) × IsEntered false ps cell state p.rows.items (reverse p.turns.items) q
 
 -- so it can be
-abbrev pub CanAdvance : List (List ℕ) → Path → Look → Type 0
+abbrev pub CanAdvance : List (List ℕ) → Path State → Look → Type 0
 CanAdvance ps p (looks.Ends kind) = ((i : ℕ) → i < length p.rows.items → length (get_or p.rows.items i []) ≡ length ps) × AreTurns ps p.turns.items p.rows.items
 CanAdvance ps p (looks.Cut cell state) = CanEnter ps p.rows.items cell
 

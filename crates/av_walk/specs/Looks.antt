@@ -3,8 +3,8 @@ use Rattle.std.specs.Prelude.{◌≡◌, ℕ, ◌<◌, Bool, true, false, List, 
 use Rattle.av_name.specs.declared.constraints.Known.{Known}
 use Rattle.av_split.specs.declared.cells.Cell.{Cell}
 use Rattle.av_split.specs.Split.{Demand}
-use Rattle.av_walk.specs.declared.path.State.{State}
-use Rattle.av_walk.specs.declared.path.State.TheVariants as states
+use Rattle.av_walk.specs.declared.looking.State.{State}
+use Rattle.av_walk.specs.declared.looking.State.TheVariants as states
 use Rattle.av_walk.specs.declared.sifting.Sifted.{Sifted}
 use Rattle.av_walk.specs.declared.looking.Kind.{Kind}
 use Rattle.av_walk.specs.declared.looking.Kind.TheVariants as kinds

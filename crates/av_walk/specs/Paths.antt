@@ -1,6 +1,6 @@
 -- The walk over the leaves: the path to the present box, and which leaves are left.
 use Rattle.std.specs.List.{flat_map}
-use Rattle.std.specs.Prelude.{◌≡◌, ℕ, ◌<◌, ◌≤◌, Bool, true, false, cond, List, [], ◌∷◌, ◌++◌, map, length, take, reverse, get_or, set, All, Option, Some, None}
+use Rattle.std.specs.Prelude.{◌≡◌, ℕ, ◌<◌, ◌≤◌, Bool, true, false, List, [], ◌∷◌, map, length, take, reverse, All, Option, Some}
 use Rattle.av_perm.specs.Members.{In}
 use Rattle.av_perm.specs.Relations.{IsWord}
 use Rattle.av_sys.specs.declared.terms.Equation.{Equation}
@@ -11,13 +11,13 @@ use Rattle.av_split.specs.declared.cells.Cell.{Cell}
 use Rattle.av_split.specs.declared.rows.Mark.{Mark}
 use Rattle.av_split.specs.Split.{Demand, demand_known, demands_known, next_question, all_of}
 use Rattle.av_split.specs.Boxes.{Question, Box, word_rules, demands}
-use Rattle.av_split.specs.Marks.{IsSettled, box_of}
-use Rattle.av_split.specs.Cells.{AreDemandsOf, question_at, known_at, AreSafe}
-use Rattle.av_split.specs.Walk.{AreRows, Either}
-use Rattle.av_walk.specs.declared.path.Path.{Path}
-use Rattle.av_walk.specs.declared.path.State.{State}
-use Rattle.av_walk.specs.declared.path.State.TheVariants as states
-use Rattle.av_walk.specs.declared.path.Turn.{Turn}
+use Rattle.av_split.specs.Cells.{AreDemandsOf, known_at, AreSafe}
+use Rattle.av_split.specs.Paths.{before, parts_of}
+use Rattle.av_split.specs.Walk.{AreRows}
+use Rattle.av_split.specs.declared.path.Path.{Path}
+use Rattle.av_walk.specs.declared.looking.State.{State}
+use Rattle.av_walk.specs.declared.looking.State.TheVariants as states
+use Rattle.av_split.specs.declared.path.Turn.{Turn}
 use Rattle.av_walk.specs.Walk.{Literal, term_known, inside_count, next_of_terms, Treatment, splits, treated, Leaf, walk}
 use Rattle.av_walk.specs.Leaves.{literals, names_of_root}
 use Rattle.av_walk.specs.Numbers.{AreTermsOf}
@@ -42,10 +42,6 @@ abbrev pub IsOpenBy : (Cell → Known) → List (Demand Cell) → State → Type
 IsOpenBy f ds (states.Open n) = demands_known f ds ≡ Open
 IsOpenBy f ds (states.Settled done live) = Unit {0}
 
--- the rows of a box before it was cut
-abbrev pub before : Turn → List (List Mark) → List (List Mark)
-before t rows = set rows t.cell.child t.row
-
 -- a box of `k` children that was cut by a cell
 pub record IsCut (k : ℕ) (ps : List (List ℕ)) (ds : List (Demand Cell)) (ts : List (List (Literal Cell))) (rows : List (List Mark)) (state : State) (cell : Cell) : Type 0 where
   pub marks : AreRows k ps rows
@@ -54,7 +50,7 @@ pub record IsCut (k : ℕ) (ps : List (List ℕ)) (ds : List (Demand Cell)) (ts 
   pub splits : treatment_at (known_at rows) ds ts ≡ splits cell
 
 -- the cuts of a path, from the last one on
-abbrev pub AreCuts : ℕ → List (List ℕ) → List (Demand Cell) → List (List (Literal Cell)) → List Turn → List (List Mark) → Type 0
+abbrev pub AreCuts : ℕ → List (List ℕ) → List (Demand Cell) → List (List (Literal Cell)) → List (Turn State) → List (List Mark) → Type 0
 AreCuts k ps ds ts [] rows = Unit {0}
 AreCuts k ps ds ts (t ∷ turns) rows = IsCut k ps ds ts (before t rows) t.state t.cell × AreCuts k ps ds ts turns (before t rows)
 
@@ -64,28 +60,18 @@ IsSafeBy f ds required (states.Open n) = AreSafe (Some required) (demand_known f
 IsSafeBy f ds required (states.Settled done live) = Unit {0}
 
 -- what was known before the last cut still is
-abbrev pub Inherits : (Cell → Known) → List (Demand Cell) → List (List (Literal Cell)) → List Turn → Type 0
+abbrev pub Inherits : (Cell → Known) → List (Demand Cell) → List (List (Literal Cell)) → List (Turn State) → Type 0
 Inherits f ds ts [] = Unit {0}
 Inherits f ds ts (t ∷ turns) = IsKnownBy f ds ts t.state × IsSafeBy f ds t.required t.state
 
 -- a path to a box of `k` children
-pub record IsPath (k : ℕ) (ps : List (List ℕ)) (ds : List (Demand Cell)) (ts : List (List (Literal Cell))) (p : Path) : Type 0 where
+pub record IsPath (k : ℕ) (ps : List (List ℕ)) (ds : List (Demand Cell)) (ts : List (List (Literal Cell))) (p : Path State) : Type 0 where
   pub marks : AreRows k ps p.rows.items
   pub known : Inherits (known_at p.rows.items) ds ts (reverse p.turns.items)
   pub cuts : AreCuts k ps ds ts (reverse p.turns.items) p.rows.items
 
--- the parts that a path leaves for later, from its last cut on
-abbrev pub parts_left : List (List ℕ) → List Turn → List (List Mark) → List Box
-parts_left ps [] rows = []
-parts_left ps (t ∷ turns) rows = cond t.required [] (word_rules.settle true (box_of ps (before t rows)) (question_at ps t.cell) ∷ []) ++ parts_left ps turns (before t rows)
-
--- the box that a path leads to, and the parts that it leaves for later
-abbrev pub parts_of : List (List ℕ) → Option Path → List Box
-parts_of ps None = []
-parts_of ps (Some p) = box_of ps p.rows.items ∷ parts_left ps (reverse p.turns.items) p.rows.items
-
 -- the leaves that they give
-abbrev pub left_of : List (Demand Question) → List (List (Literal Question)) → List (List ℕ) → Option Path → List (Leaf Box)
+abbrev pub left_of : List (Demand Question) → List (List (Literal Question)) → List (List ℕ) → Option (Path State) → List (Leaf Box)
 left_of ds ts ps p = flat_map (walk word_rules ds ts) (parts_of ps p)
 
 -- what the terms of an equation ask that have a root
@@ -97,26 +83,10 @@ abbrev pub IsAptLiteral : ℕ → Literal Question → Type 0
 IsAptLiteral k l = (l.question.child < k) × IsWord l.question.word
 
 -- the path, unless none is left, is of a root, a name and terms, whose demands and literals have these cells
-pub record IsWalk (π : List ℕ) (A R : List (List ℕ)) (asked : List (List (Literal Question))) (ps : List (List ℕ)) (ds : List (Demand Cell)) (ts : List (List (Literal Cell))) (p : Option Path) : Type 0 where
+pub record IsWalk (π : List ℕ) (A R : List (List ℕ)) (asked : List (List (Literal Question))) (ps : List (List ℕ)) (ds : List (Demand Cell)) (ts : List (List (Literal Cell))) (p : Option (Path State)) : Type 0 where
   pub avoid : (w : List ℕ) → In w A → IsWord w
   pub require : (w : List ℕ) → In w R → IsWord w
   pub literals : (t : List (Literal Question)) → In t asked → (l : Literal Question) → In l t → IsAptLiteral (length π) l
   pub cells : AreDemandsOf (length π) ps ds (demands π A R)
   pub terms : AreTermsOf (length π) ps ts asked
-  pub path : (q : Path) → p ≡ Some q → IsPath (length π) ps ds ts q
-
--- the cells of cuts are of the rows
-abbrev pub AreTurns : List (List ℕ) → List Turn → List (List Mark) → Type 0
-AreTurns ps turns rows = (t : Turn) → In t turns → (t.cell.child < length rows) × (t.cell.pattern < length ps) × (length t.row ≡ length ps)
-
--- a path once the box with these rows, after these cuts, is cut by a cell, of which the pattern is required then, or avoided
-pub record IsEntered (required : Bool) (ps : List (List ℕ)) (cell : Cell) (state : State) (marks : List (List Mark)) (cuts : List Turn) (next : Path) : Type 0 where
-  pub row : List Mark
-  pub settled : IsSettled required ps cell.pattern (get_or marks cell.child []) row
-  pub rows : next.rows.items ≡ set marks cell.child row
-  pub turns : reverse next.turns.items ≡ record { cell = cell; row = get_or marks cell.child []; state = state; required = required } ∷ cuts
-
--- the way back along cuts, from the last one on, to the first that leaves a part for later, which is entered
-abbrev pub GoesBack : List (List ℕ) → List Turn → List (List Mark) → Option Path → Type 0
-GoesBack ps [] rows next = next ≡ None
-GoesBack ps (t ∷ turns) rows next = Either t.required (GoesBack ps turns (before t rows) next) ((p : Path) × (next ≡ Some p) × IsEntered true ps t.cell t.state (before t rows) turns p)
+  pub path : (q : Path State) → p ≡ Some q → IsPath (length π) ps ds ts q

@@ -15,13 +15,13 @@ ghost use Rattle.av_walk.specs.Paths.{asked_of, left_of};
 ghost use Rattle.av_walk.specs.Ends.{IsPlanned, Advances, CanAdvance, IsEnd, Takes, Gives};
 
 use crate::literals::terms_of;
-use crate::looking::{Kind, Look, look_at};
-use crate::path::{Path, back, enter};
+use crate::looking::{Kind, Look, State, look_at};
 use crate::terms::CellTerms;
 use av_perm::{MAX_PATTERN_LENGTH, MAX_ROOT_LENGTH, Memory, Perm};
 use av_split::SplitBox;
 use av_split::asked::demands_of;
 use av_split::cells::CellDemands;
+use av_split::path::{Path, back, enter};
 use av_split::patterns::Patterns;
 use av_split::rows::Row;
 use av_split::table::Table;
@@ -61,7 +61,7 @@ pub struct Leaves<'a> {
     root: &'a Perm,
     plan: Plan,
     // The path to the cell that is looked at next, unless none is left.
-    path: Option<Path>,
+    path: Option<Path<State>>,
 }
 
 impl<'a> Model for Leaves<'a> {
@@ -198,9 +198,9 @@ fn end_of(alloc: Global, kind: Kind, table: &Table, rows: &[Row]) -> Result<Cell
 fn advance(
     alloc: Global,
     look: Look,
-    path: Path,
+    path: Path<State>,
     table: &Table,
-) -> Result<(Option<CellEnd>, Option<Path>), Memory>
+) -> Result<(Option<CellEnd>, Option<Path<State>>), Memory>
     requires { CanAdvance table.now path look }
     ensures { IfOk result (λ r. Advances table.now look path r.0 r.1) }
 {
@@ -220,8 +220,8 @@ fn find(
     equation: &Equation,
     root: &Perm,
     plan: &Plan,
-    path: Option<Path>,
-) -> Result<(Option<CellEnd>, Option<Path>), Memory>
+    path: Option<Path<State>>,
+) -> Result<(Option<CellEnd>, Option<Path<State>>), Memory>
     requires { IsPlanned system.now root.now equation.now plan.now path }
     ensures walk { IfOk result (λ r. IsPlanned system.now root.now equation.now plan.now r.1) }
     ensures takes { IfOk result (λ r. Takes r.0 (left_of (demands root.now equation.now.name.avoid equation.now.name.require) (asked_of system.now root.now equation.now) plan.now.table path) (left_of (demands root.now equation.now.name.avoid equation.now.name.require) (asked_of system.now root.now equation.now) plan.now.table r.1)) }

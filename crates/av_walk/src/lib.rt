@@ -4,7 +4,6 @@
 mod leaves;
 mod literals;
 mod looking;
-mod path;
 mod sifting;
 mod terms;
 

@@ -9,14 +9,23 @@ ghost use Rattle.av_walk.specs.Sifts.{AreCellsOfTerms, IsSifted, picked, AreAliv
 ghost use Rattle.av_walk.specs.Paths.{settled, IsKnownBy, IsSafeBy, Inherits};
 ghost use Rattle.av_walk.specs.Looks.{IsLook, AreAll, cut_or, Looks};
 
-use crate::path::{Path, State, Turn};
 use crate::sifting::{Sifted, sift};
 use crate::terms::CellTerms;
 use av_perm::Memory;
 use av_split::cells::{Cell, CellDemands};
+use av_split::path::{Path, Turn};
 use av_split::rows::Row;
 use av_split::steps::{Step, rows_step};
 use std::alloc::Global;
+
+// What is known of a box that was cut.
+#[derive(Drop)]
+pub enum State {
+    // Neither is some demand broken nor are all done: so many are, from the first on.
+    Open { from: usize },
+    // All demands are done, or else one is broken; the terms with these numbers may still have blocks there.
+    Settled { done: bool, live: Vec<usize> },
+}
 
 // How a box ends.
 #[derive(Clone, Copy)]
@@ -116,7 +125,7 @@ fn open_look(
 fn part_look(
     alloc: Global,
     rows: &[Row],
-    turn: &Turn,
+    turn: &Turn<State>,
     demands: &CellDemands,
     terms: &CellTerms,
     all: &[usize],
@@ -140,7 +149,7 @@ fn part_look(
 // What becomes of the box that a path leads to, by what was known before the last cut.
 pub fn look_at(
     alloc: Global,
-    path: &Path,
+    path: &Path<State>,
     demands: &CellDemands,
     terms: &CellTerms,
     all: &[usize],

@@ -1,7 +1,8 @@
 -- What is left stays the same; each turn lowers the weight of the parts.
 use Rattle.std.proofs.Common.{◌≡◌}
 use Rattle.av_split.specs.Boxes.{demands}
-use Rattle.av_walk.specs.Paths.{asked_of, parts_of, left_of}
+use Rattle.av_split.specs.Paths.{parts_of}
+use Rattle.av_walk.specs.Paths.{asked_of, left_of}
 use Rattle.av_walk.specs.Ends.{IsPlanned}
 use Rattle.av_walk.proofs.Turning.{weights}
 use Rattle.av_walk.proofs.leaves.find.Given as goal
