@@ -1,10 +1,10 @@
 -- The boxes that are cut one after another on the path of the walk.
 use Rattle.std.proofs.Common.{◌≡◌, ℕ, zero, suc, ◌+◌, ◌<◌, ◌≤◌, inl, inr, List, [], ◌∷◌, ◌++◌, map, length, get_or, set, replicate, take, reverse, cond, Bool, true, false, Option, Some, None, refl, sym, ap, ap₂, ◌∙◌, subst, arith, append_assoc, append-nil}
 use Rattle.std.proofs.lemmas.Bool.{cases_eq}
-use Rattle.std.proofs.lemmas.List.{get_or-map, length-map, map-set, length-set, get_or-replicate, length-replicate, get_or-set_same, get_or-set_other, reverse-append}
+use Rattle.std.proofs.lemmas.List.{get_or-map, length-map, map-set, length-set, get_or-replicate, length-replicate, get_or-set_same, get_or-set_other}
 use Rattle.std.specs.List.{flat_map}
 use Rattle.av_perm.specs.Members.{In}
-use Rattle.av_perm.proofs.Membership.{Each, append_left, append_right}
+use Rattle.av_perm.proofs.Membership.{Each}
 use Rattle.av_perm.proofs.Pointwise.{pointwise_In}
 use Rattle.av_perm.specs.Relations.{IsWord}
 use Rattle.av_perm.specs.Lists.{Pointwise}
@@ -24,10 +24,11 @@ use Rattle.av_split.specs.Boxes.{Question, Box, child_of, added, word_rules, dem
 use Rattle.av_split.specs.Laws.{IsTidy}
 use Rattle.av_split.specs.Marks.{unmarked, once, relates, IsSettled, constraint_of, box_of, free_mark}
 use Rattle.av_split.specs.Cells.{question_at, IsQuestionOf, AreQuestionsOf, IsDemandOf, AreDemandsOf, known_at, IsCellOf, HaveCellsOf, IsStep}
-use Rattle.av_split.specs.Paths.{before, parts_left, parts_of, CanEnter, AreTurns, IsEntered, Either, GoesBack}
+use Rattle.av_split.specs.Paths.{parts_left, parts_of, CanEnter, AreTurns, IsEntered, GoesBack}
 use Rattle.av_split.specs.Walk.{IsRow, AreRows, IsOpen, AreCuts, done_before, last_cut, IsPath, IsWalk, left_of, Advances, CanStep}
 use Rattle.av_split.proofs.GenericSplit.{both_inside, both_outside, both_out, either_inside, either_outside, either_in, turned_open, open_count, Asks as IsAsked, asks, fewer, boxes_outside, boxes_inside, boxes_more}
 use Rattle.av_split.proofs.WordSplit.{Fine, Apt, word_law, demands_apt}
+use Rattle.av_split.proofs.WaysBack.{back_parts, path_turns}
 use Rattle.av_split.proofs.MarkedRows.{row_fit, settled_is, settled_row, settled_known, free_row, free_is}
 
 -- two lists whose items agree
@@ -265,12 +266,6 @@ none e = cc
 pub some : {A : Type 0} {x y : A} → Some x ≡ Some y → x ≡ y
 some e = cc
 
--- an item of a list is one of the list from its end on
-pub In_reverse : {A : Type 0} (xs : List A) (x : A) → In x xs → In x (reverse xs)
-In_reverse [] x i = absurd i
-In_reverse (y ∷ xs) x (inl e) = subst (In x) (sym (reverse-append (y ∷ []) xs)) (append_right (reverse xs) (y ∷ []) x (inl e))
-In_reverse (y ∷ xs) x (inr j) = subst (In x) (sym (reverse-append (y ∷ []) xs)) (append_left (reverse xs) (y ∷ []) x (In_reverse xs x j))
-
 -- the boxes of a step
 abbrev pub given : Option Box → List Box
 given None = []
@@ -384,49 +379,23 @@ module _ (π : List ℕ) (A R ps : List (List ℕ)) (ds : List (Demand Cell)) (g
         kind : (d : Demand Cell) → last_cut (reverse q.turns.items) ≡ Some d.required → r ≡ d.required
         kind d s = let e : Some r ≡ Some d.required = sym (ap last_cut x.turns) ∙ s in cc
 
+  -- the cell of a cut can be entered
+  cut_enters : (rows : List (List Mark)) (n : ℕ) (cell : Cell) → IsOpen (length π) ps ds rows n cell → CanEnter ps rows cell
+  cut_enters rows n cell o = can_enter rows o.marks cell (asked_at rows o.marks cell (o.known, o.next))
+
   -- the way back leads to the parts that are left
-  pub back_parts : (turns : List (Turn ℕ)) (rows : List (List Mark)) (next : Option (Path ℕ)) → AreCuts (length π) ps ds turns rows → GoesBack ps turns rows next
+  parts_back : (turns : List (Turn ℕ)) (rows : List (List Mark)) (next : Option (Path ℕ)) → AreCuts (length π) ps ds turns rows → GoesBack ps turns rows next
       → ((q : Path ℕ) → next ≡ Some q → IsPath (length π) ps ds q) × (parts_of ps next ≡ parts_left ps turns rows)
-  back_parts [] rows next c g = (λ q e. absurd (none (sym g ∙ e)), ap (parts_of ps) g)
-  back_parts (t ∷ turns) rows next c g = by t.required (back_parts turns (before t rows) next c.1) g
-    where
-      by : (r : Bool) → (GoesBack ps turns (before t rows) next → ((q : Path ℕ) → next ≡ Some q → IsPath (length π) ps ds q) × (parts_of ps next ≡ parts_left ps turns (before t rows)))
-          → Either r (GoesBack ps turns (before t rows) next) ((p : Path ℕ) × (next ≡ Some p) × IsEntered true ps t.cell t.state (before t rows) turns p)
-          → ((q : Path ℕ) → next ≡ Some q → IsPath (length π) ps ds q)
-          × (parts_of ps next ≡ cond r [] (word_rules.settle true (box_of ps (before t rows)) (question_at ps t.cell) ∷ []) ++ parts_left ps turns (before t rows))
-      by true f g = f g
-      by false f g =
-          let o = c.0 in
-          let e = entered (before t rows) o.marks true t.state t.cell turns g.0 (asked_at (before t rows) o.marks t.cell (o.known, o.next)) o.within o.done o.next c.1 g.2 in (
-            λ q s. subst (IsPath (length π) ps ds) (some (sym g.1 ∙ s)) e.0,
-            ap (parts_of ps) g.1 ∙ e.1,
-          )
-
-  -- its cells are of the rows
-  pub cuts_turns : (turns : List (Turn ℕ)) (rows : List (List Mark)) → AreCuts (length π) ps ds turns rows → length rows ≡ length π → AreTurns ps turns rows
-  cuts_turns [] rows c n t i = absurd i
-  cuts_turns (s ∷ turns) rows c n t i = by i (cuts_turns turns (before s rows) c.1 (long ∙ n) t)
-    where
-      long : length (before s rows) ≡ length rows
-      long = length-set rows s.cell.child s.row
-
-      e : CanEnter ps (before s rows) s.cell
-      e = let o = c.0 in can_enter (before s rows) o.marks s.cell (asked_at (before s rows) o.marks s.cell (o.known, o.next))
-
-      by : In t (s ∷ turns) → (In t turns → (t.cell.child < length (before s rows)) × (t.cell.pattern < length ps) × (length t.row ≡ length ps)) → (t.cell.child < length rows) × (t.cell.pattern < length ps) × (length t.row ≡ length ps)
-      by (inl q) k = subst (λ (u : Turn ℕ). (u.cell.child < length rows) × (u.cell.pattern < length ps) × (length u.row ≡ length ps)) (sym q) (
-        let h = e.child in omega (arith, long),
-        e.pattern,
-        ap length (sym (get_or-set_same rows s.cell.child s.row [] (let h = e.child in omega (arith, long)))) ∙ e.size,
-      )
-      by (inr j) k = subst (λ m. (t.cell.child < m) × (t.cell.pattern < length ps) × (length t.row ≡ length ps)) long (k j)
+  parts_back =
+      back_parts ps (IsOpen (length π) ps ds) (IsPath (length π) ps ds)
+      (λ rows n cell cuts q o earlier x. entered rows o.marks true n cell cuts q (asked_at rows o.marks cell (o.known, o.next)) o.within o.done o.next earlier x)
 
   -- a step can be taken
   pub can_step : (p : Path ℕ) (s : Step) → IsPath (length π) ps ds p → IsStep s (demands_known (known_at p.rows.items) ds) (next_question (known_at p.rows.items) ds) → CanStep ps p s
   can_step p s i e = by s e
     where
       turns : AreTurns ps p.turns.items p.rows.items
-      turns t j = cuts_turns (reverse p.turns.items) p.rows.items i.cuts i.marks.count t (In_reverse p.turns.items t j)
+      turns = path_turns ps (IsOpen (length π) ps ds) cut_enters p.turns.items p.rows.items i.cuts
 
       sizes : (j : ℕ) → j < length p.rows.items → length (get_or p.rows.items j []) ≡ length ps
       sizes j h = (i.marks.each j (let n = i.marks.count in omega arith)).size
@@ -453,7 +422,7 @@ module _ (π : List ℕ) (A R ps : List (List ℕ)) (ds : List (Demand Cell)) (g
       passed : boxes_by word_rules (demands π A R) (box_of ps p.rows.items) ≡ given found → GoesBack ps (reverse p.turns.items) p.rows.items next
           → Advanced (length π) ps ds (demands π A R) (parts_of ps (Some p)) next (given found)
       passed e g =
-          let r = back_parts (reverse p.turns.items) p.rows.items next i.cuts g in
+          let r = parts_back (reverse p.turns.items) p.rows.items next i.cuts g in
           record {
             path = r.0;
             boxes = ap₂ (λ (x y : List Box). x ++ y) e (ap (flat_map (boxes_by word_rules all)) (sym r.1));

@@ -13,6 +13,11 @@ use Rattle.av_split.specs.Cells.{question_at}
 abbrev pub before : {S : Type 0} → Turn S → List (List Mark) → List (List Mark)
 before t rows = set rows t.cell.child t.row
 
+-- each cut, from the last one on, was a `C`: of a box with these rows, of which this was remembered, by this cell
+abbrev pub AreCutsBy : {S : Type 0} → (List (List Mark) → S → Cell → Type 0) → List (Turn S) → List (List Mark) → Type 0
+AreCutsBy C [] rows = Unit {0}
+AreCutsBy C (t ∷ turns) rows = C (before t rows) t.state t.cell × AreCutsBy C turns (before t rows)
+
 -- the parts that a path leaves for later, from its last cut on
 abbrev pub parts_left : {S : Type 0} → List (List ℕ) → List (Turn S) → List (List Mark) → List Box
 parts_left ps [] rows = []

@@ -17,7 +17,7 @@ use Rattle.av_split.specs.Boxes.{Question, Box, word_rules, demands}
 use Rattle.av_split.specs.Laws.{IsTidy}
 use Rattle.av_split.specs.Marks.{unmarked, constraint_of, box_of}
 use Rattle.av_split.specs.Cells.{AreDemandsOf, known_at, AreSafe}
-use Rattle.av_split.specs.Paths.{before, parts_of, CanEnter, AreTurns, IsEntered, GoesBack}
+use Rattle.av_split.specs.Paths.{AreCutsBy, parts_of, CanEnter, AreTurns, IsEntered, GoesBack}
 
 -- the marks of a child are what its constraint tells of the patterns
 pub record IsRow (ps : List (List ℕ)) (row : List Mark) : Type 0 where
@@ -43,8 +43,7 @@ pub record IsOpen (k : ℕ) (ps : List (List ℕ)) (asked : List (Demand Cell)) 
 
 -- each cut of a path, from the last one on, was of an open box by its first open cell
 abbrev pub AreCuts : ℕ → List (List ℕ) → List (Demand Cell) → List (Turn ℕ) → List (List Mark) → Type 0
-AreCuts k ps asked [] rows = Unit {0}
-AreCuts k ps asked (t ∷ turns) rows = IsOpen k ps asked (before t rows) t.state t.cell × AreCuts k ps asked turns (before t rows)
+AreCuts k ps asked = AreCutsBy (IsOpen k ps asked)
 
 -- so many demands were done before the last cut, from which on the cuts are given
 abbrev pub done_before : List (Turn ℕ) → ℕ

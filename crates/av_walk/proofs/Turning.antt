@@ -1,6 +1,5 @@
 -- The cells that are split one after another on the path of the walk.
-use Rattle.std.proofs.Common.{◌≡◌, ℕ, ◌+◌, ◌<◌, inl, inr, List, [], ◌∷◌, ◌++◌, length, get_or, set, reverse, cond, Bool, true, false, Option, Some, None, sym, ap, ap₂, ◌∙◌, subst, arith, append_assoc}
-use Rattle.std.proofs.lemmas.List.{length-set, get_or-set_same}
+use Rattle.std.proofs.Common.{◌≡◌, ℕ, ◌+◌, ◌<◌, List, [], ◌∷◌, ◌++◌, length, get_or, set, reverse, cond, Bool, true, false, Option, Some, None, sym, ap, ap₂, ◌∙◌, subst, arith, append_assoc}
 use Rattle.std.specs.List.{flat_map}
 use Rattle.av_perm.specs.Members.{In}
 use Rattle.av_perm.specs.Relations.{IsWord}
@@ -13,11 +12,12 @@ use Rattle.av_split.specs.Split.{Demand}
 use Rattle.av_split.specs.Boxes.{Question, Box, word_rules}
 use Rattle.av_split.specs.Marks.{once, box_of}
 use Rattle.av_split.specs.Cells.{question_at, IsQuestionOf, AreDemandsOf, known_at, HaveCellsOf}
-use Rattle.av_split.specs.Paths.{before, parts_left, parts_of, CanEnter, AreTurns, IsEntered, Either, GoesBack}
+use Rattle.av_split.specs.Paths.{before, parts_left, parts_of, CanEnter, IsEntered, GoesBack}
 use Rattle.av_split.specs.Walk.{AreRows}
 use Rattle.av_split.proofs.GenericSplit.{open_count}
 use Rattle.av_split.proofs.WordSplit.{Fine, Apt, word_law}
-use Rattle.av_split.proofs.Cutting.{cell_known, rows_fine, question_cell, cell_question, next_box, next_rows, next_known, set_back, none, some, In_reverse, weight, weight_two, weight_some}
+use Rattle.av_split.proofs.WaysBack.{back_parts, path_turns}
+use Rattle.av_split.proofs.Cutting.{cell_known, rows_fine, question_cell, cell_question, next_box, next_rows, next_known, set_back, some, weight, weight_two, weight_some}
 use Rattle.av_split.specs.declared.path.Path.{Path}
 use Rattle.av_walk.specs.declared.looking.State.{State}
 use Rattle.av_split.specs.declared.path.Turn.{Turn}
@@ -119,46 +119,19 @@ module _ (k : ℕ) (ps : List (List ℕ)) (ds : List (Demand Cell)) (es : List (
         next : (other : Cell) → other.pattern < length ps → (t : Bool) × (known_at q.rows.items other ≡ once r t (known_at rows other))
         next other h = next_known r k ps rows q.rows.items x.row cell is a.cell_is.child a.cell_is.pattern (cell_word cell a) (cell_open cell a) x.settled x.rows other h
 
+  -- the cell of a cut can be entered
+  cut_enters : (rows : List (List Mark)) (state : State) (cell : Cell) → IsCut k ps ds ts rows state cell → CanEnter ps rows cell
+  cut_enters rows state cell c = can_enter rows c.marks cell (asked_at rows c.marks cell c.splits)
+
   -- the way back leads to the parts that are left
-  back_parts : (turns : List (Turn State)) (rows : List (List Mark)) (next : Option (Path State)) → AreCuts k ps ds ts turns rows → GoesBack ps turns rows next → ((q : Path State) → next ≡ Some q → IsPath k ps ds ts q) × (parts_of ps next ≡ parts_left ps turns rows)
-  back_parts [] rows next c g = (λ q e. absurd (none (sym g ∙ e)), ap (parts_of ps) g)
-  back_parts (t ∷ turns) rows next c g = by t.required (back_parts turns (before t rows) next c.1) g
-    where
-      by : (r : Bool) → (GoesBack ps turns (before t rows) next → ((q : Path State) → next ≡ Some q → IsPath k ps ds ts q) × (parts_of ps next ≡ parts_left ps turns (before t rows)))
-          → Either r (GoesBack ps turns (before t rows) next) ((p : Path State) × (next ≡ Some p) × IsEntered true ps t.cell t.state (before t rows) turns p)
-          → ((q : Path State) → next ≡ Some q → IsPath k ps ds ts q)
-          × (parts_of ps next ≡ cond r [] (word_rules.settle true (box_of ps (before t rows)) (question_at ps t.cell) ∷ []) ++ parts_left ps turns (before t rows))
-      by true f g = f g
-      by false f g =
-          let e = entered (before t rows) c.0.marks true t.state t.cell turns g.0 c.0 c.1 g.2 in (
-            λ q s. subst (IsPath k ps ds ts) (some (sym g.1 ∙ s)) e.0,
-            ap (parts_of ps) g.1 ∙ e.1,
-          )
-
-  -- its cells are of the rows
-  cuts_turns : (turns : List (Turn State)) (rows : List (List Mark)) → AreCuts k ps ds ts turns rows → length rows ≡ k → AreTurns ps turns rows
-  cuts_turns [] rows c n t i = absurd i
-  cuts_turns (s ∷ turns) rows c n t i = by i (cuts_turns turns (before s rows) c.1 (long ∙ n) t)
-    where
-      long : length (before s rows) ≡ length rows
-      long = length-set rows s.cell.child s.row
-
-      e : CanEnter ps (before s rows) s.cell
-      e = can_enter (before s rows) c.0.marks s.cell (asked_at (before s rows) c.0.marks s.cell c.0.splits)
-
-      by : In t (s ∷ turns) → (In t turns → (t.cell.child < length (before s rows)) × (t.cell.pattern < length ps) × (length t.row ≡ length ps)) → (t.cell.child < length rows) × (t.cell.pattern < length ps) × (length t.row ≡ length ps)
-      by (inl q) h = subst (λ (u : Turn State). (u.cell.child < length rows) × (u.cell.pattern < length ps) × (length u.row ≡ length ps)) (sym q) (
-        let l = e.child in omega (arith, long),
-        e.pattern,
-        ap length (sym (get_or-set_same rows s.cell.child s.row [] (let l = e.child in omega (arith, long)))) ∙ e.size,
-      )
-      by (inr j) h = subst (λ m. (t.cell.child < m) × (t.cell.pattern < length ps) × (length t.row ≡ length ps)) long (h j)
+  parts_back : (turns : List (Turn State)) (rows : List (List Mark)) (next : Option (Path State)) → AreCuts k ps ds ts turns rows → GoesBack ps turns rows next → ((q : Path State) → next ≡ Some q → IsPath k ps ds ts q) × (parts_of ps next ≡ parts_left ps turns rows)
+  parts_back = back_parts ps (IsCut k ps ds ts) (IsPath k ps ds ts) (λ rows state cell cuts q c earlier x. entered rows c.marks true state cell cuts q c earlier x)
 
   -- what was seen can be done
   pub can_advance : (p : Path State) (look : Look) → IsPath k ps ds ts p → IsLook (known_at p.rows.items) ds ts look → CanAdvance ps p look
   can_advance p (looks.Ends kind) i e = (
     λ j h. (i.marks.each j (let n = i.marks.count in omega arith)).size,
-    λ t j. cuts_turns (reverse p.turns.items) p.rows.items i.cuts i.marks.count t (In_reverse p.turns.items t j),
+    path_turns ps (IsCut k ps ds ts) cut_enters p.turns.items p.rows.items i.cuts,
   )
   can_advance p (looks.Cut cell state) i e = can_enter p.rows.items i.marks cell (asked_at p.rows.items i.marks cell e.0)
 
@@ -184,7 +157,7 @@ module _ (k : ℕ) (ps : List (List ℕ)) (ds : List (Demand Cell)) (es : List (
       ended : (kind : Kind) (end : CellEnd) → found ≡ Some end → IsEnd end (record { cell = b; ending = ending_of kind }) → treatment_at (known_at p.rows.items) ds ts ≡ ends (ending_of kind)
           → GoesBack ps (reverse p.turns.items) p.rows.items next → Advanced (parts_of ps (Some p)) next found
       ended kind end f h e g =
-          let r = back_parts (reverse p.turns.items) p.rows.items next i.cuts g in
+          let r = parts_back (reverse p.turns.items) p.rows.items next i.cuts g in
           let t = same_end k ps (treatment_at (known_at p.rows.items) ds ts) (treatment word_rules es us b) (ending_of kind) (becomes p.rows.items i.marks) e in
           record {
             path = r.0;

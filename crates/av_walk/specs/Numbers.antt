@@ -1,5 +1,5 @@
 -- Literals and terms by number: their questions as cells of a table of children by patterns.
-use Rattle.std.specs.Prelude.{◌≡◌, ℕ, List}
+use Rattle.std.specs.Prelude.{◌≡◌, ◌<◌, ◌++◌, ℕ, List}
 use Rattle.av_perm.specs.Lists.{Pointwise}
 use Rattle.av_split.specs.declared.cells.Cell.{Cell}
 use Rattle.av_split.specs.Boxes.{Question}
@@ -15,6 +15,10 @@ pub record IsLiteralOf (k : ℕ) (ps : List (List ℕ)) (l : Literal Cell) (m : 
 abbrev pub AreLiteralsOf : ℕ → List (List ℕ) → List (Literal Cell) → List (Literal Question) → Type 0
 AreLiteralsOf k ps = Pointwise (IsLiteralOf k ps)
 
--- and of each term
+-- these join the literals of a term, whatever they are, of `k` children of which this is one
+abbrev pub AddsLiterals : ℕ → List (List ℕ) → List (List ℕ) → List (Literal Cell) → List (Literal Cell) → List (Literal Question) → Type 0
+AddsLiterals child ps qs old new more = (k : ℕ) (before : List (Literal Question)) → child < k → AreLiteralsOf k ps old before → AreLiteralsOf k qs new (before ++ more)
+
+-- so of each term
 abbrev pub AreTermsOf : ℕ → List (List ℕ) → List (List (Literal Cell)) → List (List (Literal Question)) → Type 0
 AreTermsOf k ps = Pointwise (AreLiteralsOf k ps)

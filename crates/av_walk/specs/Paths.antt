@@ -12,7 +12,7 @@ use Rattle.av_split.specs.declared.rows.Mark.{Mark}
 use Rattle.av_split.specs.Split.{Demand, demand_known, demands_known, next_question, all_of}
 use Rattle.av_split.specs.Boxes.{Question, Box, word_rules, demands}
 use Rattle.av_split.specs.Cells.{AreDemandsOf, known_at, AreSafe}
-use Rattle.av_split.specs.Paths.{before, parts_of}
+use Rattle.av_split.specs.Paths.{AreCutsBy, parts_of}
 use Rattle.av_split.specs.Walk.{AreRows}
 use Rattle.av_split.specs.declared.path.Path.{Path}
 use Rattle.av_walk.specs.declared.looking.State.{State}
@@ -51,8 +51,7 @@ pub record IsCut (k : ℕ) (ps : List (List ℕ)) (ds : List (Demand Cell)) (ts 
 
 -- the cuts of a path, from the last one on
 abbrev pub AreCuts : ℕ → List (List ℕ) → List (Demand Cell) → List (List (Literal Cell)) → List (Turn State) → List (List Mark) → Type 0
-AreCuts k ps ds ts [] rows = Unit {0}
-AreCuts k ps ds ts (t ∷ turns) rows = IsCut k ps ds ts (before t rows) t.state t.cell × AreCuts k ps ds ts turns (before t rows)
+AreCuts k ps ds ts = AreCutsBy (IsCut k ps ds ts)
 
 -- no demand that the last cut could not break is broken, where the demands weren't settled before it
 abbrev pub IsSafeBy : (Cell → Known) → List (Demand Cell) → Bool → State → Type 0

@@ -8,7 +8,7 @@ ghost use Rattle.av_sys.specs.declared.terms.Term.{Term};
 ghost use Rattle.av_split.specs.Boxes.{Question};
 ghost use Rattle.av_walk.specs.Walk.{Literal};
 ghost use Rattle.av_walk.specs.Leaves.{asks, child_literals, literals, names_at, names_of_root};
-ghost use Rattle.av_walk.specs.Numbers.{AreLiteralsOf, AreTermsOf};
+ghost use Rattle.av_walk.specs.Numbers.{AreLiteralsOf, AddsLiterals, AreTermsOf};
 
 use crate::terms::{CellLiteral, CellTerm, CellTerms};
 use av_perm::{Memory, Perm, Words, shortlex};
@@ -57,7 +57,7 @@ fn push_words(
     term: &mut CellTerm,
 ) -> Result<(), Memory>
     ensures grows { OnOk result (Extends patterns.old patterns.new) }
-    ensures literals { OnOk result ((k : ℕ) (before : List (Literal Question)) → child < k → AreLiteralsOf k patterns.old term.old before → AreLiteralsOf k patterns.new term.new (before ++ map (asks required child) words.now)) }
+    ensures literals { OnOk result (AddsLiterals child patterns.old patterns.new term.old term.new (map (asks required child) words.now)) }
 {
     for word in words.as_slice() {
         let pattern = patterns.number(word.copy())?;
@@ -76,7 +76,7 @@ fn push_in_order(
     term: &mut CellTerm,
 ) -> Result<(), Memory>
     ensures grows { OnOk result (Extends patterns.old patterns.new) }
-    ensures literals { OnOk result ((k : ℕ) (before : List (Literal Question)) → child < k → AreLiteralsOf k patterns.old term.old before → AreLiteralsOf k patterns.new term.new (before ++ map (asks required child) (in_shortlex words.now))) }
+    ensures literals { OnOk result (AddsLiterals child patterns.old patterns.new term.old term.new (map (asks required child) (in_shortlex words.now))) }
 {
     if is_ascending(words) {
         push_words(child, required, words, patterns, term)
@@ -95,7 +95,7 @@ fn push_name(
     term: &mut CellTerm,
 ) -> Result<(), Memory>
     ensures grows { OnOk result (Extends patterns.old patterns.new) }
-    ensures literals { OnOk result ((k : ℕ) (before : List (Literal Question)) → child < k → AreLiteralsOf k patterns.old term.old before → AreLiteralsOf k patterns.new term.new (before ++ child_literals child name.now)) }
+    ensures literals { OnOk result (AddsLiterals child patterns.old patterns.new term.old term.new (child_literals child name.now)) }
 {
     push_in_order(alloc, child, false, &name.avoid, patterns, term)?;
     push_in_order(alloc, child, true, &name.require, patterns, term)
