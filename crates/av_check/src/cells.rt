@@ -1,12 +1,10 @@
 // The cells of the roots that an equation may have.
 ghost use Rattle.std.specs.Prelude.{◌≡◌, ◌≤◌, [], length, IfOk, OnOk};
-ghost use Rattle.av_perm.specs.Members.{In};
-ghost use Rattle.av_perm.specs.Relations.{sum_root, skew_root};
 ghost use Rattle.av_sys.specs.Terms.{IsSystemRoot};
-ghost use Rattle.av_build.specs.Laws.{AreRoots, Covers};
+ghost use Rattle.av_build.specs.Laws.{AreRoots};
 ghost use Rattle.av_check.specs.Verdicts.{first_some, root_fault, roots_for, cells_fault};
 ghost use Rattle.av_check.specs.Outcomes.{AreOutcomes};
-ghost use Rattle.av_check.specs.Checks.{IsTaken};
+ghost use Rattle.av_check.specs.Checks.{IsTested, AreSystemRoots};
 ghost use Rattle.av_check.specs.Ends.{end_flaw, IsGrowableEnd};
 
 use crate::fault::Fault;
@@ -54,10 +52,7 @@ fn root_fault(
     root: &Perm,
     outcomes: &mut Outcomes,
 ) -> Result<Option<Fault>, Memory>
-    requires system { IsTaken system.now }
-    requires listed { In equation.now system.now.equations }
-    requires covers { Covers first.now.avoid equation.now.name.avoid }
-    requires simples { AreRoots simples.now }
+    requires tested { IsTested first.now system.now simples.now equation.now }
     requires root { IsSystemRoot root.now }
     requires known { AreOutcomes simples.now outcomes.old }
     ensures fault { IfOk result (λ fault. fault ≡ root_fault MAX_SIZE system.now simples.now equation.now root.now) }
@@ -78,92 +73,23 @@ fn root_fault(
     Ok(None)
 }
 
-// That of 12.
-fn sum_fault(
+// That of the first of some roots that has one.
+fn first_fault(
     alloc: Global,
     first: &Name,
     system: &System,
     simples: &Words,
     equation: &Equation,
+    roots: &Words,
     outcomes: &mut Outcomes,
 ) -> Result<Option<Fault>, Memory>
-    requires system { IsTaken system.now }
-    requires listed { In equation.now system.now.equations }
-    requires covers { Covers first.now.avoid equation.now.name.avoid }
-    requires simples { AreRoots simples.now }
+    requires tested { IsTested first.now system.now simples.now equation.now }
+    requires roots { AreSystemRoots roots.now }
     requires known { AreOutcomes simples.now outcomes.old }
-    ensures fault { IfOk result (λ fault. fault ≡ root_fault MAX_SIZE system.now simples.now equation.now sum_root) }
+    ensures fault { IfOk result (λ fault. fault ≡ first_some (root_fault MAX_SIZE system.now simples.now equation.now) roots.now) }
     ensures known { OnOk result (AreOutcomes simples.now outcomes.new) }
 {
-    let root = sum_root();
-    root_fault(alloc, first, system, simples, equation, &root, outcomes)
-}
-
-// That of 21.
-fn skew_fault(
-    alloc: Global,
-    first: &Name,
-    system: &System,
-    simples: &Words,
-    equation: &Equation,
-    outcomes: &mut Outcomes,
-) -> Result<Option<Fault>, Memory>
-    requires system { IsTaken system.now }
-    requires listed { In equation.now system.now.equations }
-    requires covers { Covers first.now.avoid equation.now.name.avoid }
-    requires simples { AreRoots simples.now }
-    requires known { AreOutcomes simples.now outcomes.old }
-    ensures fault { IfOk result (λ fault. fault ≡ root_fault MAX_SIZE system.now simples.now equation.now skew_root) }
-    ensures known { OnOk result (AreOutcomes simples.now outcomes.new) }
-{
-    let root = skew_root();
-    root_fault(alloc, first, system, simples, equation, &root, outcomes)
-}
-
-// Those of both in turn, as far as the sign of the equation's name lets them be.
-fn sums_fault(
-    alloc: Global,
-    first: &Name,
-    system: &System,
-    simples: &Words,
-    equation: &Equation,
-    outcomes: &mut Outcomes,
-) -> Result<Option<Fault>, Memory>
-    requires system { IsTaken system.now }
-    requires listed { In equation.now system.now.equations }
-    requires covers { Covers first.now.avoid equation.now.name.avoid }
-    requires simples { AreRoots simples.now }
-    requires known { AreOutcomes simples.now outcomes.old }
-    ensures fault { IfOk result (λ fault. fault ≡ first_some (root_fault MAX_SIZE system.now simples.now equation.now) (roots_for equation.now.name.sign [])) }
-    ensures known { OnOk result (AreOutcomes simples.now outcomes.new) }
-{
-    if equation.name.sign != Sign::P {
-        let fault = sum_fault(alloc, first, system, simples, equation, outcomes)?;
-        if fault.is_some() || equation.name.sign == Sign::M {
-            return Ok(fault);
-        }
-    }
-    skew_fault(alloc, first, system, simples, equation, outcomes)
-}
-
-// Those of the simple roots in turn.
-fn simples_fault(
-    alloc: Global,
-    first: &Name,
-    system: &System,
-    simples: &Words,
-    equation: &Equation,
-    outcomes: &mut Outcomes,
-) -> Result<Option<Fault>, Memory>
-    requires system { IsTaken system.now }
-    requires listed { In equation.now system.now.equations }
-    requires covers { Covers first.now.avoid equation.now.name.avoid }
-    requires simples { AreRoots simples.now }
-    requires known { AreOutcomes simples.now outcomes.old }
-    ensures fault { IfOk result (λ fault. fault ≡ first_some (root_fault MAX_SIZE system.now simples.now equation.now) simples.now) }
-    ensures known { OnOk result (AreOutcomes simples.now outcomes.new) }
-{
-    for root in simples.as_slice() {
+    for root in roots.as_slice() {
         let fault = root_fault(alloc, first, system, simples, equation, root, outcomes)?;
         if fault.is_some() {
             return Ok(fault);
@@ -172,7 +98,21 @@ fn simples_fault(
     Ok(None)
 }
 
-// Those of all roots that the equation may have, in turn.
+// 12 and 21, as far as the sign of a name lets them be roots.
+fn sums_for(alloc: Global, sign: Sign) -> Result<Words, Memory>
+    ensures { IfOk result (λ roots. roots ≡ roots_for sign []) }
+{
+    let mut roots = Words::empty(alloc);
+    if sign != Sign::P {
+        roots.push(sum_root())?;
+    }
+    if sign != Sign::M {
+        roots.push(skew_root())?;
+    }
+    Ok(roots)
+}
+
+// That of the first of all roots that the equation may have.
 pub fn cells_fault(
     alloc: Global,
     first: &Name,
@@ -181,17 +121,15 @@ pub fn cells_fault(
     equation: &Equation,
     outcomes: &mut Outcomes,
 ) -> Result<Option<Fault>, Memory>
-    requires system { IsTaken system.now }
-    requires listed { In equation.now system.now.equations }
-    requires covers { Covers first.now.avoid equation.now.name.avoid }
-    requires simples { AreRoots simples.now }
+    requires tested { IsTested first.now system.now simples.now equation.now }
     requires known { AreOutcomes simples.now outcomes.old }
     ensures fault { IfOk result (λ fault. fault ≡ cells_fault MAX_SIZE system.now simples.now equation.now) }
     ensures known { OnOk result (AreOutcomes simples.now outcomes.new) }
 {
-    let fault = sums_fault(alloc, first, system, simples, equation, outcomes)?;
+    let sums = sums_for(alloc, equation.name.sign)?;
+    let fault = first_fault(alloc, first, system, simples, equation, &sums, outcomes)?;
     if fault.is_some() {
         return Ok(fault);
     }
-    simples_fault(alloc, first, system, simples, equation, outcomes)
+    first_fault(alloc, first, system, simples, equation, simples, outcomes)
 }

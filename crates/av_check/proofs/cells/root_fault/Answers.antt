@@ -9,18 +9,18 @@ use Rattle.av_check.proofs.LeafLoops.{given_leaf, end_same, left_start, left_pas
 use Rattle.av_check.proofs.cells.root_fault.Goals as goal
 
 pub new-requires-clause-avoid : goal.new-requires-clause-avoid
-new-requires-clause-avoid c = (short_name c.args.system.now c.args.equation.now c.requires.system c.len-equations.ensures.names c.requires.listed c.args.equation.now c.requires.listed).avoid
+new-requires-clause-avoid c = (short_name c.args.system.now c.args.equation.now c.requires.tested.taken c.len-equations.ensures.names c.requires.tested.listed c.args.equation.now c.requires.tested.listed).avoid
 
 pub new-requires-clause-require : goal.new-requires-clause-require
-new-requires-clause-require c = (short_name c.args.system.now c.args.equation.now c.requires.system c.len-equations.ensures.names c.requires.listed c.args.equation.now c.requires.listed).require
+new-requires-clause-require c = (short_name c.args.system.now c.args.equation.now c.requires.tested.taken c.len-equations.ensures.names c.requires.tested.listed c.args.equation.now c.requires.tested.listed).require
 
 pub new-requires-clause-terms : goal.new-requires-clause-terms
-new-requires-clause-terms c t i = c.requires.system.form.terms c.args.equation.now t c.requires.listed i
+new-requires-clause-terms c t i = c.requires.tested.taken.form.terms c.args.equation.now t c.requires.tested.listed i
 
 pub end_flaw-requires-clause-names : goal.end_flaw-requires-clause-names
 end_flaw-requires-clause-names c =
     let given = given_leaf c.in-Some.end c.in_ok-end.field-0 c.loop-end.leaves c.next.new.self c.in_ok-end.was c.in-Some.ensures in
-    growable_end c.args.system.now c.args.equation.now c.requires.system c.len-equations.ensures.names c.requires.listed c.args.first.now.avoid c.args.root.now c.in_ok-end.field-0 given.0 c.requires.covers c.requires.root
+    growable_end c.args.system.now c.args.equation.now c.requires.tested.taken c.len-equations.ensures.names c.requires.tested.listed c.args.first.now.avoid c.args.root.now c.in_ok-end.field-0 given.0 c.requires.tested.covers c.requires.root
     (c.loop-end.invariant.left.among given.0 (subst (In given.0) (sym given.2) (inl refl))) given.1
 
 pub loop-end-init : goal.loop-end-init

@@ -3,7 +3,7 @@ use Rattle.std.proofs.Common.{◌≡◌, drop}
 use Rattle.av_build.specs.declared.limits.TheConstants.{MAX_SIZE}
 use Rattle.av_check.specs.Verdicts.{first_some, root_fault}
 use Rattle.av_check.specs.Outcomes.{AreOutcomes}
-use Rattle.av_check.proofs.cells.simples_fault.Given as goal
+use Rattle.av_check.proofs.cells.first_fault.Given as goal
 
 abbrev pub invariant-loop-root : goal.invariant-loop-root
 invariant-loop-root l = record {
