@@ -15,7 +15,7 @@ pub record IsLiteralOf (k : ℕ) (ps : List (List ℕ)) (l : Literal Cell) (m : 
 abbrev pub AreLiteralsOf : ℕ → List (List ℕ) → List (Literal Cell) → List (Literal Question) → Type 0
 AreLiteralsOf k ps = Pointwise (IsLiteralOf k ps)
 
--- these join the literals of a term, whatever they are, of `k` children of which this is one
+-- these are written after a term's literals, whatever those are; the child is one of `k`
 abbrev pub AddsLiterals : ℕ → List (List ℕ) → List (List ℕ) → List (Literal Cell) → List (Literal Cell) → List (Literal Question) → Type 0
 AddsLiterals child ps qs old new more = (k : ℕ) (before : List (Literal Question)) → child < k → AreLiteralsOf k ps old before → AreLiteralsOf k qs new (before ++ more)
 
