@@ -5,6 +5,8 @@ pub mod OptionWords
 pub mod OptionRows
 pub mod OptionTexts
 pub mod OptionSteps
+pub mod OptionTurns
+pub mod OptionReadings
 pub mod OptionLaw
 pub mod AllowedOptions
 pub mod Ends
