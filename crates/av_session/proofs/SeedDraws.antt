@@ -7,7 +7,6 @@ use Rattle.av_perm.specs.Lists.{counting}
 use Rattle.av_perm.specs.Stat.{statistic_of}
 use Rattle.av_perm.specs.declared.StatKind.{StatKind}
 use Rattle.av_sys.specs.declared.terms.System.{System}
-use Rattle.av_sys.specs.Trees.{value}
 use Rattle.av_sys.specs.TreeLists.{members, count_of}
 use Rattle.av_count.specs.declared.count.Count.TheVariants.{Known, Over}
 use Rattle.av_count.specs.Counts.{capped}
