@@ -19,6 +19,7 @@ pub mod WaitingLines
 pub mod SeedDraws
 pub mod Summaries
 pub mod ClassAnswers
+pub mod TakenBytes
 pub mod Wholes
 pub mod Systems
 pub mod CheckEnds

@@ -1,5 +1,5 @@
 -- The bytes that were taken say what all the bytes of the source say.
-use Rattle.std.proofs.Common.{◌≡◌, ℕ, ◌<◌, ◌≤◌, ◌⊎◌, inl, inr, List, [], ◌++◌, length, Option, Some, None, IfSome, Result, Ok, Err, append-nil, length-append, refl, sym, ap, ◌∙◌, subst, arith}
+use Rattle.std.proofs.Common.{◌≡◌, ℕ, ◌<◌, ◌≤◌, inl, inr, Bool, true, false, if◌then◌else◌, List, [], ◌++◌, length, Option, Some, None, IfSome, Result, Ok, Err, append-nil, length-append, refl, sym, ap, ◌∙◌, subst, arith}
 use Rattle.std.proofs.lemmas.Bool.{cases_lt}
 use Rattle.std.specs.Io.KnownBytes.{IsAtEnd}
 use Rattle.av_text.specs.declared.limits.TheConstants.{MAX_SCRIPT_BYTES}
@@ -7,7 +7,7 @@ use Rattle.av_text.specs.declared.script.Script.{Script}
 use Rattle.av_text.specs.declared.kind.Kind.TheVariants.{TooLong}
 use Rattle.av_text.specs.Read.{read, Fault}
 use Rattle.av_text.proofs.Reading.{read_long}
-use Rattle.av_session.specs.declared.reading.TheConstants.{MOST_READ}
+use Rattle.av_session.specs.declared.reading.TheConstants.{MOST_READ, MOST_CLAIMED}
 use Rattle.av_session.specs.declared.options.Options.{Options}
 use Rattle.av_session.specs.declared.status.Status.{Status}
 use Rattle.av_session.specs.declared.status.Status.TheVariants as status
@@ -16,6 +16,7 @@ use Rattle.av_session.specs.Solved.{solved_script, status_of}
 use Rattle.av_session.specs.Due.{text_due, text_of}
 use Rattle.av_session.specs.Status.{HoldsText, FitsText, FitsRead, FitsScript}
 use Rattle.av_session.specs.Options.{options}
+use Rattle.av_session.proofs.TakenBytes.{of_known, of_all, two_left}
 use Rattle.av_session.specs.Runs.{demo_asked, script_by, script_bytes, most_by, most_read, due, FitsRun, FitsRun_of, ReadsWhole, IsComplete}
 
 read_same : (all taken left : List ℕ) → all ≡ taken ++ left → length taken ≤ MOST_READ → (length taken < MOST_READ → left ≡ []) → read taken ≡ read all
@@ -31,53 +32,29 @@ script_end taken new script e end = elim (cases_lt MAX_SCRIPT_BYTES (length take
   | inr short ↦ end (omega arith)
 ]
 
-module _ (o : Options) (old new held held' : Option (List ℕ)) (taken : List ℕ) (t : TakesAll MOST_READ old new taken) (s : Status) where
-  pub text_whole : HoldsText s held held' (text_due o taken) → IfSome old (λ bytes. HoldsText s held held' (text_due o bytes))
+-- so a script that was read is one of all the bytes, where the options ask for one of the source
+module _ (o : Options) (none : o.demo ≡ None) (old new : Option (List ℕ)) (taken : List ℕ) (most : ℕ) (is_most : most ≡ most_by (Some o)) (all_taken : TakesAll most old new taken) (s : Status) where
+  script_whole : (Q : Result Script Fault → Type 0) → (o.check ≡ false → Q (read taken)) → IfSome (script_by (Some o) old) (λ bytes. Q (read bytes))
+  script_whole Q h = rw none (by o.check (subst (λ m. TakesAll m old new taken) is_most all_taken) h)
+    where
+      by : (b : Bool) → TakesAll (if b then MOST_CLAIMED else MOST_READ) old new taken → (b ≡ false → Q (read taken)) → IfSome (if b then None else old) (λ bytes. Q (read bytes))
+      by true u q = tt
+      by false u q = of_all (λ bytes. Q (read bytes)) MOST_READ old new taken u (λ all left e most end. subst Q (read_same all taken left e most end) (q refl))
+
+  pub text_whole : (held held' : Option (List ℕ)) → (o.check ≡ false → HoldsText s held held' (text_due o taken)) → IfSome (script_by (Some o) old) (λ bytes. HoldsText s held held' (text_due o bytes))
   unfolding text_due
-  text_whole h = by old new t
-    where
-      by : (old new : Option (List ℕ)) → TakesAll MOST_READ old new taken → IfSome old (λ bytes. HoldsText s held held' (text_of o (read bytes)))
-      by None new u = tt
-      by (Some all) None u = absurd u.0
-      by (Some all) (Some left) u = rw (← read_same all taken left u.0 u.1 u.2) h
+  text_whole held held' h = script_whole (λ r. HoldsText s held held' (text_of o r)) h
 
-  pub fits_whole : FitsText s o taken → IfSome old (λ bytes. FitsText s o bytes)
-  fits_whole h = by old new t
-    where
-      by : (old new : Option (List ℕ)) → TakesAll MOST_READ old new taken → IfSome old (λ bytes. FitsRead s o (read bytes))
-      by None new u = tt
-      by (Some all) None u = absurd u.0
-      by (Some all) (Some left) u = rw (← read_same all taken left u.0 u.1 u.2) h
+  pub fits_whole : (o.check ≡ false → FitsText s o taken) → IfSome (script_by (Some o) old) (λ bytes. FitsText s o bytes)
+  fits_whole h = script_whole (FitsRead s o) h
 
-  pub whole_read : FitsText s o taken → ReadsWhole MOST_READ s old new
-  whole_read h = by s h
-    where
-      done : (r : Result Script Fault) → read taken ≡ r → FitsRead status.Done o r → IsAtEnd new
-      done (Ok script) e f = script_end taken new script e t.2
-      done (Err fault) e f = absurd f
-
-      by : (s : Status) → FitsText s o taken → ReadsWhole MOST_READ s old new
-      by status.Done f = ((taken, t), done (read taken) refl f)
-      by status.Memory f = tt
-      by status.Words f = tt
-      by status.ReadFault f = tt
-      by status.WriteFault f = tt
-      by status.Refused f = (taken, t)
-      by status.Unsettled f = (taken, t)
-      by status.TooLarge f = (taken, t)
-
--- want of memory and a fault of the source may come with any bytes
-free_read : (o : Options) (r : Result Script Fault) → FitsRead status.Memory o r × FitsRead status.ReadFault o r
-free_read o (Ok script) = (tt, tt)
-free_read o (Err fault) = (tt, tt)
-
-pub memory_fits : (o : Options) (old : Option (List ℕ)) → IfSome old (λ bytes. FitsText status.Memory o bytes)
-memory_fits o None = tt
-memory_fits o (Some bytes) = (free_read o (read bytes)).0
-
-pub read_fault_fits : (o : Options) (old : Option (List ℕ)) → IfSome old (λ bytes. FitsText status.ReadFault o bytes)
-read_fault_fits o None = tt
-read_fault_fits o (Some bytes) = (free_read o (read bytes)).1
+-- and the source was read to its end where its script was answered
+pub done_end : (o : Options) (taken : List ℕ) (new : Option (List ℕ)) → FitsText status.Done o taken → (length taken < MOST_READ → IsAtEnd new) → IsAtEnd new
+done_end o taken new f end = by (read taken) refl f
+  where
+    by : (r : Result Script Fault) → read taken ≡ r → FitsRead status.Done o r → IsAtEnd new
+    by (Ok script) e f = script_end taken new script e end
+    by (Err fault) e f = absurd f
 
 -- the words of the command line ask for the demo script of the options that they set
 asked : (words : List (List ℕ)) (o : Options) → Some o ≡ options words → o.demo ≡ demo_asked words
@@ -113,41 +90,31 @@ most_whole words o s old new e h = rw (← e) h
 -- words that aren't accepted ask for nothing of the text
 pub no_options_fits : (words : List (List ℕ)) (s : Status) (old : Option (List ℕ)) → None ≡ options words → IfSome old (λ bytes. FitsRun s words bytes)
 unfolding FitsRun
-no_options_fits words s None e = tt
-no_options_fits words s (Some bytes) e = rw (← e) tt
+no_options_fits words s old e = of_known _ old (λ bytes. rw (← e) tt)
 
 -- want of memory fits with any words
 pub memory_fits_all : (words : List (List ℕ)) (old : Option (List ℕ)) → IfSome old (λ bytes. FitsRun status.Memory words bytes)
 unfolding FitsRun
-memory_fits_all words None = tt
-memory_fits_all words (Some bytes) = by (options words)
+memory_fits_all words old = of_known _ old (λ bytes. by bytes (options words))
   where
-    by : (o : Option Options) → FitsRun_of status.Memory o bytes
-    by None = tt
-    by (Some o) = (free_read o (read bytes)).0
+    free : (o : Options) (r : Result Script Fault) → FitsRead status.Memory o r
+    free o (Ok script) = tt
+    free o (Err fault) = tt
+
+    by : (bytes : List ℕ) (o : Option Options) → FitsRun_of status.Memory o bytes
+    by bytes None = tt
+    by bytes (Some o) = free o (read bytes)
 
 -- no status but Done and Memory is left
 pub complete_by : (s : Status) (left : Option (List ℕ)) (words : List (List ℕ)) (R W : Type 0) → (s ≡ status.Words → options words ≡ None) → (s ≡ status.ReadFault → R) → (s ≡ status.WriteFault → W)
     → IfSome left (λ bytes. FitsRun s words bytes) → IsComplete s left words R W
 unfolding FitsRun
-complete_by s left words R W no_words read_rose write_rose fits bytes o script class l a r settled no_read no_write = by s no_words read_rose write_rose here
+complete_by s left words R W no_words read_rose write_rose fits bytes o script class l a r settled no_read no_write =
+    two_left (λ t. FitsScript t o script) s here (λ e. let f : Some o ≡ None = sym a ∙ no_words e in cc) (λ e. no_read (read_rose e)) (λ e. no_write (write_rose e))
+    (λ f. f) (λ f. let e : status.Unsettled ≡ status.Done = sym f ∙ done in cc) (λ f. let e : status.TooLarge ≡ status.Done = sym f ∙ done in cc)
   where
-    told : (left : Option (List ℕ)) → left ≡ Some bytes → IfSome left (λ bytes. FitsRun_of s (options words) bytes) → FitsRun_of s (options words) bytes
-    told None e f = absurd (cc)
-    told (Some all) e f = let same : all ≡ bytes = cc in subst (λ b. FitsRun_of s (options words) b) same f
-
     done : status_of (solved_script o script) ≡ status.Done
     done = rw settled refl
 
     here : FitsScript s o script
-    here = rw r at (rw a at (told left l fits))
-
-    by : (s : Status) → (s ≡ status.Words → options words ≡ None) → (s ≡ status.ReadFault → R) → (s ≡ status.WriteFault → W) → FitsScript s o script → (s ≡ status.Done) ⊎ (s ≡ status.Memory)
-    by status.Done n p q f = inl refl
-    by status.Memory n p q f = inr refl
-    by status.Words n p q f = absurd (let e : Some o ≡ None = sym a ∙ n refl in cc)
-    by status.ReadFault n p q f = absurd (no_read (p refl))
-    by status.WriteFault n p q f = absurd (no_write (q refl))
-    by status.Refused n p q f = absurd f
-    by status.Unsettled n p q f = absurd (cc)
-    by status.TooLarge n p q f = absurd (cc)
+    here = rw r at (rw a at (subst (λ known. IfSome known (λ b. FitsRun_of s (options words) b)) l fits))

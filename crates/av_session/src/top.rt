@@ -1,5 +1,5 @@
 // The top call.
-ghost use Rattle.std.specs.Prelude.{◌≡◌, ◌≤◌, List, ℕ, IfSome, Some, None, Result, Ok, map, string_bytes};
+ghost use Rattle.std.specs.Prelude.{◌≡◌, ◌≤◌, List, ℕ, IfSome, Some, None, true, false, Result, Ok, map, string_bytes};
 ghost use Rattle.std.specs.Io.KnownBytes.{Keeps};
 ghost use Rattle.av_io.specs.Causes.{Rose};
 ghost use Rattle.av_text.specs.Demo.{demo_script};
@@ -9,7 +9,7 @@ ghost use Rattle.av_session.specs.Options.{options, IsAllowed};
 ghost use Rattle.av_session.specs.Taken.{TakesUpTo};
 ghost use Rattle.av_session.specs.Status.{HoldsText, FitsText, ComesAfterReading};
 ghost use Rattle.av_session.specs.Due.{text_due};
-ghost use Rattle.av_session.specs.Runs.{demo_asked, bytes_by, script_by, script_bytes, most_by, most_read, due, FitsRun, ReadsWhole, IsComplete, IsAbout, HasCases, WritesSystem};
+ghost use Rattle.av_session.specs.Runs.{demo_asked, script_by, script_bytes, most_by, most_read, due, FitsRun, ReadsWhole, IsComplete, IsAbout, HasCases, WritesSystem};
 ghost use Rattle.av_check.specs.declared.claim.Claim.{Claim};
 ghost use Rattle.av_check.specs.Claims.{IsClaim};
 ghost use Rattle.av_session.specs.Checks.{IsTold, HasTold, claimed_by, claim_bytes, HoldsCheck, FitsCheck, HoldsTold, FitsWords, IsAboutClaim, IsCheckComplete};
@@ -24,55 +24,32 @@ use av_perm::Memory;
 use av_text::{MAX_DEMO, demo_script};
 use std::alloc::Global;
 
-/// Reads the script that the source has, and writes the text due of these options.
-fn run_source<S: Source, K: Sink>(
-    alloc: Global,
-    options: &Options,
-    source: &mut S,
-    sink: &mut K,
-) -> Status
-    requires { IsAllowed options.now }
-    ensures not_words { result ≡ Status.Words → ⊥ }
-    ensures read_fault { result ≡ Status.ReadFault → Rose (S.faults source.old) (S.faults source.new) }
-    ensures write_fault { result ≡ Status.WriteFault → Rose (K.faults sink.old) (K.faults sink.new) }
-    ensures fits { IfSome (S.left source.old) (λ bytes. FitsText result options.now bytes) }
-    ensures text { IfSome (S.left source.old) (λ bytes. HoldsText result (K.held sink.old) (K.held sink.new) (text_due options.now bytes)) }
-    ensures unwritten { result ≡ Status.ReadFault → sink.new ≡ sink.old }
-    ensures took { TakesUpTo MOST_READ (S.left source.old) (S.left source.new) }
-    ensures input { ReadsWhole MOST_READ result (S.left source.old) (S.left source.new) }
-    ensures source_later { S.faults source.old ≤ S.faults source.new }
-    ensures sink_later { K.faults sink.old ≤ K.faults sink.new }
+/// How many bytes are read at most where the options are these.
+fn most_bytes(options: &Options) -> usize
+    ensures { result ≡ most_by (Some options.now) }
 {
-    match read_all(alloc, source, MOST_READ) {
-        Ok(bytes) => answer(alloc, sink, options, &bytes),
-        Err(ReadError::Failed) => Status::ReadFault,
-        Err(ReadError::Memory) => Status::Memory,
+    match options.check {
+        true => MOST_CLAIMED,
+        false => MOST_READ,
     }
 }
 
-/// Reads the claim that the source has, and writes the text due of these options.
-fn run_check<S: Source, K: Sink>(
-    alloc: Global,
-    options: &Options,
-    source: &mut S,
-    sink: &mut K,
-) -> Status
+/// Writes the text due of these options where the source has these bytes, which for a check are read as a claim, and else as a
+/// script.
+fn answer_bytes<K: Sink>(alloc: Global, options: &Options, bytes: &[u8], sink: &mut K) -> Status
     requires { IsAllowed options.now }
-    ensures not_words { result ≡ Status.Words → ⊥ }
-    ensures read_fault { result ≡ Status.ReadFault → Rose (S.faults source.old) (S.faults source.new) }
+    ensures answer { ComesAfterReading result }
     ensures write_fault { result ≡ Status.WriteFault → Rose (K.faults sink.old) (K.faults sink.new) }
-    ensures fits { IfSome (S.left source.old) (λ bytes. FitsCheck result options.now bytes) }
-    ensures text { IfSome (S.left source.old) (λ bytes. HoldsCheck result (K.held sink.old) (K.held sink.new) options.now bytes) }
-    ensures unwritten { result ≡ Status.ReadFault → sink.new ≡ sink.old }
-    ensures took { TakesUpTo MOST_CLAIMED (S.left source.old) (S.left source.new) }
-    ensures input { ReadsWhole MOST_CLAIMED result (S.left source.old) (S.left source.new) }
-    ensures source_later { S.faults source.old ≤ S.faults source.new }
-    ensures sink_later { K.faults sink.old ≤ K.faults sink.new }
+    ensures fits { options.now.check ≡ false → FitsText result options.now bytes.now }
+    ensures text { options.now.check ≡ false → HoldsText result (K.held sink.old) (K.held sink.new) (text_due options.now bytes.now) }
+    ensures check_fits { options.now.check ≡ true → FitsCheck result options.now bytes.now }
+    ensures check_text { options.now.check ≡ true → HoldsCheck result (K.held sink.old) (K.held sink.new) options.now bytes.now }
+    ensures later { K.faults sink.old ≤ K.faults sink.new }
 {
-    match read_all(alloc, source, MOST_CLAIMED) {
-        Ok(bytes) => answer_claim(alloc, sink, options, &bytes),
-        Err(ReadError::Failed) => Status::ReadFault,
-        Err(ReadError::Memory) => Status::Memory,
+    if options.check {
+        answer_claim(alloc, sink, options, bytes)
+    } else {
+        answer(alloc, sink, options, bytes)
     }
 }
 
@@ -92,36 +69,8 @@ fn run_demo<K: Sink>(alloc: Global, options: &Options, g: u32, sink: &mut K) -> 
     }
 }
 
-/// Writes the text due of these options: of the demo script, where they have its number, and else of the script that the
-/// source has.
-fn run_script<S: Source, K: Sink>(
-    alloc: Global,
-    options: &Options,
-    source: &mut S,
-    sink: &mut K,
-) -> Status
-    requires { IsAllowed options.now }
-    ensures not_words { result ≡ Status.Words → ⊥ }
-    ensures read_fault { result ≡ Status.ReadFault → Rose (S.faults source.old) (S.faults source.new) }
-    ensures write_fault { result ≡ Status.WriteFault → Rose (K.faults sink.old) (K.faults sink.new) }
-    ensures fits { IfSome (bytes_by options.now.demo (S.left source.old)) (λ bytes. FitsText result options.now bytes) }
-    ensures text { IfSome (bytes_by options.now.demo (S.left source.old)) (λ bytes. HoldsText result (K.held sink.old) (K.held sink.new) (text_due options.now bytes)) }
-    ensures unread_demo { IfSome options.now.demo (λ _. source.new ≡ source.old) }
-    ensures no_read_fault { IfSome options.now.demo (λ _. result ≡ Status.ReadFault → ⊥) }
-    ensures unwritten { result ≡ Status.ReadFault → sink.new ≡ sink.old }
-    ensures took { TakesUpTo MOST_READ (S.left source.old) (S.left source.new) }
-    ensures input { options.now.demo ≡ None → ReadsWhole MOST_READ result (S.left source.old) (S.left source.new) }
-    ensures source_later { S.faults source.old ≤ S.faults source.new }
-    ensures sink_later { K.faults sink.old ≤ K.faults sink.new }
-{
-    match options.demo {
-        Some(g) => run_demo(alloc, options, g, sink),
-        None => run_source(alloc, options, source, sink),
-    }
-}
-
-/// Writes the text due of these options: of the claim that the source has, where they ask for a check of it, and else of a
-/// script.
+/// Writes the text due of these options: of the demo script, where they have its number, and else of the bytes that the source
+/// has.
 fn run_with<S: Source, K: Sink>(
     alloc: Global,
     options: &Options,
@@ -144,10 +93,13 @@ fn run_with<S: Source, K: Sink>(
     ensures source_later { S.faults source.old ≤ S.faults source.new }
     ensures sink_later { K.faults sink.old ≤ K.faults sink.new }
 {
-    if options.check {
-        run_check(alloc, options, source, sink)
-    } else {
-        run_script(alloc, options, source, sink)
+    match options.demo {
+        Some(g) => run_demo(alloc, options, g, sink),
+        None => match read_all(alloc, source, most_bytes(options)) {
+            Ok(bytes) => answer_bytes(alloc, options, &bytes, sink),
+            Err(ReadError::Failed) => Status::ReadFault,
+            Err(ReadError::Memory) => Status::Memory,
+        },
     }
 }
 
