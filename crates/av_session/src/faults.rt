@@ -1,23 +1,17 @@
 // Whole runs over sources and sinks that fail, over scripts that are cut short, and over scripts with one fault.
 ghost use Rattle.std.specs.Prelude.{◌≡◌, ◌≤◌, length, None};
 
-use crate::tests::{CATALAN, CATALAN_ANSWER, Ended, command_line, run_script};
+use crate::tests::{CATALAN, CATALAN_ANSWER, Ended, LAST_LINE, run_over, run_script};
 use crate::{Status, run};
-use av_io::{Failed, MemSink, MemSource, Source, SureSink, SureSource};
+use av_io::{Failed, MemSink, MemSource, Source, SureSource};
 use av_text::demo_script;
 use std::alloc::{AllocError, Global};
 use std::test::Fail;
 
-// The length of the last line of the answer, which is that of the query.
-const LAST_LINE: usize = 14;
-
 // A run over a source of one byte a call whose call of this number fails, and a sink that never does.
 fn run_with_failing_read(alloc: Global, call: u64) -> Result<Ended, AllocError> {
     let mut source = MemSource::new(Vec::from_slice(alloc, CATALAN)?, 1, vec![in alloc; call]?);
-    let mut sink = SureSink::new(alloc);
-    let status = run(alloc, &[], &mut source, &mut sink);
-    let held = Vec::from_slice(alloc, sink.bytes())?;
-    Ok(Ended { status, held })
+    run_over(alloc, &[], &mut source)
 }
 
 // The script has 18 bytes, and call 19 gives none: no call comes after that.
@@ -234,17 +228,15 @@ fn copy_front(bytes: &[u8], buf: &mut [u8]) -> usize
 #[test]
 fn a_demo_reads_no_source(rt: HostRuntime) -> Result<(), Fail> {
     let alloc = rt.alloc();
-    let words = command_line(alloc, &["--demo", "10", "--max-simple=6"])?;
     let mut source = Resuming::new(Second::Fails);
-    let mut sink = SureSink::new(alloc);
-    let status = run(alloc, &words, &mut source, &mut sink);
+    let ended = run_over(alloc, &["--demo", "10", "--max-simple=6"], &mut source)?;
     let Ok(script) = demo_script(alloc, 10) else {
         assert!(rt; false);
         return Ok(());
     };
     let wanted = run_script(alloc, &["--max-simple=6"], &script)?;
-    assert!(rt; status == wanted.status);
-    assert!(rt; sink.bytes() == wanted.held.as_slice());
+    assert!(rt; ended.status == wanted.status);
+    assert!(rt; ended.held.as_slice() == wanted.held.as_slice());
     assert_eq!(rt; source.calls, 0);
     Ok(())
 }
@@ -252,12 +244,10 @@ fn a_demo_reads_no_source(rt: HostRuntime) -> Result<(), Fail> {
 // The second read of a source fails: nothing is written, and there is no third read.
 #[test]
 fn the_first_read_that_fails_ends_the_run(rt: HostRuntime) -> Result<(), Fail> {
-    let alloc = rt.alloc();
     let mut source = Resuming::new(Second::Fails);
-    let mut sink = SureSink::new(alloc);
-    let status = run(alloc, &[], &mut source, &mut sink);
-    assert!(rt; status == Status::ReadFault);
-    assert!(rt; sink.bytes().is_empty());
+    let ended = run_over(rt.alloc(), &[], &mut source)?;
+    assert!(rt; ended.status == Status::ReadFault);
+    assert!(rt; ended.held.is_empty());
     assert_eq!(rt; source.calls, 2);
     Ok(())
 }
@@ -265,12 +255,10 @@ fn the_first_read_that_fails_ends_the_run(rt: HostRuntime) -> Result<(), Fail> {
 // A source would give more after its end: it isn't read any more.
 #[test]
 fn the_first_read_that_gives_none_ends_the_reading(rt: HostRuntime) -> Result<(), Fail> {
-    let alloc = rt.alloc();
     let mut source = Resuming::new(Second::Ends);
-    let mut sink = SureSink::new(alloc);
-    let status = run(alloc, &[], &mut source, &mut sink);
-    assert!(rt; status == Status::Done);
-    assert!(rt; sink.bytes() == &CATALAN_ANSWER[..CATALAN_ANSWER.len() - LAST_LINE]);
+    let ended = run_over(rt.alloc(), &[], &mut source)?;
+    assert!(rt; ended.status == Status::Done);
+    assert!(rt; ended.held.as_slice() == &CATALAN_ANSWER[..CATALAN_ANSWER.len() - LAST_LINE]);
     assert_eq!(rt; source.calls, 2);
     Ok(())
 }

@@ -1,7 +1,7 @@
 // Whole runs, with sources and sinks in memory: what is written, and how the run ends.
 
 use crate::{Options, Status, read_words, run};
-use av_io::{SureSink, SureSource};
+use av_io::{Source, SureSink, SureSource};
 use av_match::minimal;
 use av_perm::{Memory, NotPerm, Perm, Words, is_simple};
 use av_simple::{Outcome, search};
@@ -25,8 +25,11 @@ end
 count 7 = 429
 ";
 
+// The length of its last line, which is that of the query.
+pub const LAST_LINE: usize = 14;
+
 // The words of a command line.
-pub fn command_line(alloc: Global, texts: &[&str]) -> Result<Vec<String>, AllocError> {
+fn command_line(alloc: Global, texts: &[&str]) -> Result<Vec<String>, AllocError> {
     let mut words = Vec::new(alloc);
     for text in texts {
         words.push(String::from_str(alloc, text)?)?;
@@ -41,14 +44,23 @@ pub struct Ended {
     pub held: Vec<u8>,
 }
 
-// Runs over a source and a sink that never fail.
-pub fn run_script(alloc: Global, options: &[&str], script: &[u8]) -> Result<Ended, AllocError> {
+// Runs over this source, and a sink that never fails.
+pub fn run_over<S: Source>(
+    alloc: Global,
+    options: &[&str],
+    source: &mut S,
+) -> Result<Ended, AllocError> {
     let words = command_line(alloc, options)?;
-    let mut source = SureSource::new(Vec::from_slice(alloc, script)?);
     let mut sink = SureSink::new(alloc);
-    let status = run(alloc, &words, &mut source, &mut sink);
+    let status = run(alloc, &words, source, &mut sink);
     let held = Vec::from_slice(alloc, sink.bytes())?;
     Ok(Ended { status, held })
+}
+
+// Runs over a source and a sink that never fail.
+pub fn run_script(alloc: Global, options: &[&str], script: &[u8]) -> Result<Ended, AllocError> {
+    let mut source = SureSource::new(Vec::from_slice(alloc, script)?);
+    run_over(alloc, options, &mut source)
 }
 
 static ANSWERED: [(&str, Status, &str); 19] = [
@@ -462,7 +474,7 @@ fn the_longest_script(rt: HostRuntime) -> Result<(), Fail> {
     script.extend_from_slice(&[b'x'; 65_525])?;
     let longest = run_script(rt.alloc(), &[], &script)?;
     assert!(rt; longest.status == Status::Done);
-    assert!(rt; longest.held.as_slice() == &CATALAN_ANSWER[..CATALAN_ANSWER.len() - 14]);
+    assert!(rt; longest.held.as_slice() == &CATALAN_ANSWER[..CATALAN_ANSWER.len() - LAST_LINE]);
     script.push(b'x')?;
     let longer = run_script(rt.alloc(), &[], &script)?;
     assert!(rt; longer.status == Status::Refused);
@@ -515,8 +527,12 @@ fn sum_of_counts(bars: &[u8]) -> u128 {
 fn a_distribution_at_the_greatest_length(rt: HostRuntime) -> Result<(), Fail> {
     let ended = run_script(rt.alloc(), &[], b"basis 132\ndist inv 24\n")?;
     assert!(rt; ended.status == Status::Done);
-    // The system is that of the first script, whose last line has 14 bytes.
-    let Some(line) = ended.held.as_slice().get(CATALAN_ANSWER.len() - 14..) else {
+    // The system is that of the first script.
+    let Some(line) = ended
+        .held
+        .as_slice()
+        .get(CATALAN_ANSWER.len() - LAST_LINE..)
+    else {
         assert!(rt; false, "the text is too short");
         return Ok(());
     };
