@@ -37,7 +37,7 @@ whole_read o old new taken most is_most all_taken s script claim = read_by (most
     ]
     by false end f g e = done_end o taken new (subst (λ r. FitsText r o taken) e (f refl)) end
 
--- the same with the words of the command line, which set these options
+-- what is so with the options is so with the words of the command line that set them
 pub told_text_due : (words : List (List ℕ)) (o : Options) (s : Status) (left held held' : Option (List ℕ)) → Some o ≡ options words
     → IfSome (claimed_by (Some o) left) (λ bytes. HoldsCheck s held held' o bytes) → IfSome (claim_bytes words left) (λ bytes. HoldsTold s held held' words bytes)
 unfolding claim_bytes told_due
