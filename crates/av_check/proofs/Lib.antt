@@ -9,7 +9,6 @@ pub mod ListedRoots
 pub mod RightNames
 pub mod CellNames
 pub mod VerdictParts
-pub mod RootFaults
 pub mod EquationTerms
 pub mod Soundness
 pub mod GoodWalk

@@ -7,7 +7,7 @@ ghost use Rattle.av_check.specs.Laws.{HoldsAllSimples, IsRightClaim};
 ghost use Rattle.av_check.specs.Outcomes.{AreOutcomes};
 ghost use Rattle.av_check.specs.Checks.{AreShort, IsTaken};
 
-use crate::cells::cells_fault;
+use crate::cells::{TestedEquation, cells_fault};
 use crate::claim::Claim;
 use crate::fault::Fault;
 use crate::names::{claim_name, is_void, is_wrong_name};
@@ -46,7 +46,13 @@ fn equation_fault(
     if let Some(root) = first_wrong_root(system, simples, equation) {
         return Ok(Some(Fault::Root { root }));
     }
-    cells_fault(alloc, first, system, simples, equation, outcomes)
+    let tested = TestedEquation {
+        first,
+        system,
+        simples,
+        equation,
+    };
+    cells_fault(alloc, &tested, outcomes)
 }
 
 // The verdict of a fault of the equation with this number.

@@ -1,4 +1,4 @@
--- Each of the roots is one.
+-- Each of the roots is one of a system.
 use Rattle.std.proofs.Common.{sym, subst}
 use Rattle.av_perm.specs.Members.{In}
 use Rattle.av_perm.proofs.Membership.{In_at}

@@ -7,6 +7,6 @@ use Rattle.av_check.proofs.cells.first_fault.Given as goal
 
 abbrev pub invariant-loop-root : goal.invariant-loop-root
 invariant-loop-root l = record {
-  left : first_some (root_fault MAX_SIZE l.fn.system l.fn.simples l.fn.equation) (drop l.root-index l.root-items) ≡ first_some (root_fault MAX_SIZE l.fn.system l.fn.simples l.fn.equation) l.root-items;
-  known : AreOutcomes l.fn.simples l.outcomes;
+  left : first_some (root_fault MAX_SIZE l.fn.tested.system.now l.fn.tested.simples.now l.fn.tested.equation.now) (drop l.root-index l.root-items) ≡ first_some (root_fault MAX_SIZE l.fn.tested.system.now l.fn.tested.simples.now l.fn.tested.equation.now) l.root-items;
+  known : AreOutcomes l.fn.tested.simples.now l.outcomes;
 }

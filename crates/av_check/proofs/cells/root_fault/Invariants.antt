@@ -9,8 +9,8 @@ use Rattle.av_check.proofs.cells.root_fault.Given as goal
 
 abbrev pub invariant-loop-end : goal.invariant-loop-end
 invariant-loop-end l = record {
-  left : IsLeft (leaf_flaw MAX_SIZE l.fn.simples l.fn.root) l.fn.root (leaves_of l.fn.system l.fn.root l.fn.equation) l.leaves l.cell;
-  known : AreOutcomes l.fn.simples l.outcomes;
+  left : IsLeft (leaf_flaw MAX_SIZE l.fn.tested.simples.now l.fn.root) l.fn.root (leaves_of l.fn.tested.system.now l.fn.root l.fn.tested.equation.now) l.leaves l.cell;
+  known : AreOutcomes l.fn.tested.simples.now l.outcomes;
 }
 
 abbrev pub decreases-loop-end : goal.decreases-loop-end
