@@ -1,18 +1,10 @@
 -- The next line of a text, and those after it.
-use Rattle.std.proofs.Common.{◌≡◌, ℕ, List, [], ◌∷◌, drop, None, sym, ap, subst, ◌∙◌, arith}
-use Rattle.std.specs.List.{position}
-use Rattle.av_text.specs.Lines.{script_lines, is_line_feed}
-use Rattle.av_text.proofs.Cuts.{lines_none, lines_last}
+use Rattle.std.proofs.Common.{◌≡◌, ℕ, List, [], ◌∷◌, drop, sym, ap, subst, ◌∙◌}
 use Rattle.av_check.specs.Reading.{FirstIs, Passes}
 
--- a line before others
-pub first_before : (ls : List (List ℕ)) (l : List ℕ) (rest : List (List ℕ)) → ls ≡ l ∷ rest → ls ≡ l ∷ drop 1 ls
-first_before ls l rest e = e ∙ ap (λ (r : List (List ℕ)). l ∷ r) (sym (ap (drop 1) e))
-
--- without a line feed there is one line at most
-pub lines_over : (bs : List ℕ) → position is_line_feed bs ≡ None → [] ≡ drop 1 (script_lines bs)
-lines_over [] e = sym (ap (drop 1) lines_none)
-lines_over (x ∷ xs) e = sym (ap (drop 1) (lines_last (x ∷ xs) (omega arith) e))
+-- after no lines there are none
+pub none_after : (ls : List (List ℕ)) → ls ≡ [] → ls ≡ drop 1 ls
+none_after ls e = e ∙ sym (ap (drop 1) e)
 
 -- what is known of the next line
 pub next_is : (P : List ℕ → Type 0) (ls : List (List ℕ)) (l : List ℕ) (rest : List (List ℕ)) → ls ≡ l ∷ rest → P l → FirstIs P ls

@@ -24,8 +24,8 @@ fn line_feed(bytes: &[u8]) -> Option<usize>
     bytes.iter().position(|b| *b == b'\n')
 }
 
-/// The first line, and the bytes that follow it.
-fn first_line(bytes: &[u8]) -> (&[u8], &[u8])
+/// The first line of a text that isn't empty, without the one carriage return at its end, and the bytes that follow it.
+pub fn first_line(bytes: &[u8]) -> (&[u8], &[u8])
     requires { 0 < length bytes.now }
     ensures lines { script_lines bytes.now ≡ result.0.now ∷ script_lines result.1.now }
     ensures shorter { length result.1.now < length bytes.now }

@@ -1,52 +1,12 @@
 // The lines of a claim, one after another.
-ghost use Rattle.std.specs.Prelude.{◌≡◌, ◌↔◌, ℕ, List, ◌<◌, [], ◌∷◌, length, drop, MatchOption, IfSome, IsTrue};
-ghost use Rattle.std.specs.List.{position};
-ghost use Rattle.std.specs.Str.Lines.{strip_carriage_return};
-ghost use Rattle.av_text.specs.Lines.{script_lines, is_line_feed};
+ghost use Rattle.std.specs.Prelude.{◌≡◌, ◌↔◌, [], ◌∷◌, length, drop, MatchOption, IsTrue};
+ghost use Rattle.av_text.specs.Lines.{script_lines};
 ghost use Rattle.av_check.specs.Claims.{BeginsWith};
 ghost use Rattle.av_check.specs.Reading.{FirstIs, Passes};
 
 use crate::reading::pieces::{after, is};
+use av_text::first_line;
 use std::marker::Model;
-
-/// A line without the one carriage return at its end, if it has one.
-fn strip_carriage_return(line: &[u8]) -> &[u8]
-    ensures { result.now ≡ strip_carriage_return line.now }
-{
-    match line {
-        [front @ .., b'\r'] => front,
-        _ => line,
-    }
-}
-
-/// Where the first line feed stands.
-fn line_feed(bytes: &[u8]) -> Option<usize>
-    ensures value { result ≡ position is_line_feed bytes.now }
-    ensures within { IfSome result (λ at. at < length bytes.now) }
-{
-    bytes.iter().position(|b| *b == b'\n')
-}
-
-/// The first line.
-fn first_line(bytes: &[u8]) -> &[u8]
-    requires { 0 < length bytes.now }
-    ensures { script_lines bytes.now ≡ result.now ∷ drop 1 (script_lines bytes.now) }
-{
-    match line_feed(bytes) {
-        Some(at) => strip_carriage_return(&bytes[..at]),
-        None => strip_carriage_return(bytes),
-    }
-}
-
-/// The bytes after the first line.
-fn other_lines(bytes: &[u8]) -> &[u8]
-    ensures { script_lines result.now ≡ drop 1 (script_lines bytes.now) }
-{
-    match line_feed(bytes) {
-        Some(at) => &bytes[at + 1..],
-        None => &[],
-    }
-}
 
 /// The lines that are left of a text, seen as their list.
 #[derive(Drop)]
@@ -78,7 +38,8 @@ impl<'a> Lines<'a> {
         if self.rest.is_empty() {
             None
         } else {
-            Some(first_line(self.rest))
+            let (line, _) = first_line(self.rest);
+            Some(line)
         }
     }
 
@@ -86,7 +47,10 @@ impl<'a> Lines<'a> {
     pub fn pass(&mut self)
         ensures { self.new ≡ drop 1 self.old }
     {
-        self.rest = other_lines(self.rest);
+        if !self.rest.is_empty() {
+            let (_, rest) = first_line(self.rest);
+            self.rest = rest;
+        }
     }
 
     /// How many lines are left.
