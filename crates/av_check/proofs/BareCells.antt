@@ -3,31 +3,24 @@ use Rattle.std.proofs.Common.{◌≡◌, ℕ, suc, ◌<◌, ◌≤◌, ◌⊎◌
 use Rattle.std.specs.List.{flat_map, list_any}
 use Rattle.std.specs.Cmp.Lexicographic.{pointwise}
 use Rattle.std.proofs.lemmas.Bool.{cases_Bool, or_parts}
-use Rattle.std.proofs.lemmas.List.{get_or-replicate}
 use Rattle.av_perm.specs.declared.limits.TheConstants.{MAX_PATTERN_LENGTH}
 use Rattle.av_perm.specs.Members.{In}
 use Rattle.av_perm.specs.Lists.{same}
 use Rattle.av_perm.specs.Contain.{contains}
 use Rattle.av_perm.specs.Class.{minimal, top}
-use Rattle.av_perm.specs.Relations.{IsWord, Contains, pattern_of}
-use Rattle.av_perm.proofs.Membership.{Each, In_joined, In_append_cases, In_map, In_flat_map, append_left, map_In, each_all, all_each}
+use Rattle.av_perm.specs.Relations.{IsWord, pattern_of}
+use Rattle.av_perm.proofs.Membership.{Each, In_joined, In_append_cases, In_map, In_flat_map, each_all, all_each}
 use Rattle.av_perm.proofs.Containment.{contains_trans}
-use Rattle.av_perm.proofs.Fibres.{fibre_at}
 use Rattle.av_perm.proofs.Occurrences.{contains_from}
-use Rattle.av_perm.proofs.Patterns.{length_pattern, word_pattern}
+use Rattle.av_perm.proofs.Patterns.{length_pattern}
 use Rattle.av_perm.proofs.Tests.{any_from, any_to}
-use Rattle.av_embed.specs.Embed.{fibre, embeddings}
-use Rattle.av_embed.proofs.EmbeddingList.{embedding_to}
+use Rattle.av_embed.specs.Embed.{fibre}
 use Rattle.av_sys.specs.declared.names.Sign.{Sign}
 use Rattle.av_sys.specs.declared.names.Name.{Name}
-use Rattle.av_name.specs.declared.constraints.Known.{Known}
-use Rattle.av_name.specs.declared.constraints.Known.TheVariants.{Inside}
 use Rattle.av_name.specs.Constraints.{free}
-use Rattle.av_name.proofs.KnownPatterns.{outside_is}
-use Rattle.av_split.specs.Split.{Demand, all_of, some_of, demand_known, demands_known, questions_of}
-use Rattle.av_split.specs.Boxes.{Question, Box, child_of, word_rules, ask, questions, demand, demands}
-use Rattle.av_split.proofs.GenericSplit.{each_inside, each_outside, one_outside, unflipped}
-use Rattle.av_split.proofs.WordSplit.{start_fine, In_ask, demands_each, demands_apt, constant, constant_fibre, nonempty_has}
+use Rattle.av_split.specs.Split.{Demand, questions_of}
+use Rattle.av_split.specs.Boxes.{Question, Box, child_of, word_rules, ask, questions, demands}
+use Rattle.av_split.proofs.WordSplit.{done_child_avoids, start_fine, In_ask, demands_each, demands_apt}
 use Rattle.av_split.proofs.BoxWords.{FineWith, AptWith, words_law, start_words, fibre_short}
 use Rattle.av_build.specs.Drafts.{child_names}
 use Rattle.av_build.specs.Canonical.{is_void}
@@ -46,27 +39,6 @@ use Rattle.av_check.proofs.NameLiterals.{child_each, literals_apt}
 use Rattle.av_check.proofs.RootLeaves.{settled}
 use Rattle.av_check.proofs.RightNames.{not_misnamed}
 use Rattle.av_check.proofs.TidyNames.{top_same}
-
--- where all demands of a name are done in a cell, each avoided word of the name contains an avoided word of each child
-cell_avoids : (π : List ℕ) (A R : List (List ℕ)) (γ : List ℕ) (x : Box) (i : ℕ) → Each IsWord A → In γ A → demands_known (word_rules.known x) (demands π A R) ≡ Inside → i < length π
-    → (a : List ℕ) × In a (child_of x i).avoid × Contains γ a
-cell_avoids π A R γ x i ga inA done hi =
-    let f : Question → Known = word_rules.known x in
-    let d = each_inside (demand_known f) (demands π A R) done (demand π false γ) (append_left (map (demand π false) A) (map (demand π true) R) (demand π false γ) (map_In (demand π false) A γ inA)) in
-    let out = unflipped (some_of (all_of f) (map (questions π γ) (embeddings π γ))) d in
-    let e : List ℕ = replicate (length γ) (suc i) in
-    let m = each_outside (all_of f) (map (questions π γ) (embeddings π γ)) out (questions π γ e) (map_In (questions π γ) (embeddings π γ) e (embedding_to π γ e (constant π γ i hi))) in
-    let q = one_outside f (questions π γ e) m in
-    let j = In_joined (λ n. ask n (fibre γ e (suc n))) (length π) q.0 q.1 in
-    let asked = In_ask j.0 (fibre γ e (suc j.0)) q.0 j.2 in
-    let item = nonempty_has (fibre γ e (suc j.0)) asked.1 in
-    let place = fibre_at γ e (suc j.0) item.0 0 item.1 in
-    let here : suc j.0 ≡ suc i = sym place.3 ∙ get_or-replicate (length γ) place.0 (suc i) 0 place.1 in
-    let word : pattern_of (fibre γ e (suc j.0)) ≡ γ = ap (λ n. pattern_of (fibre γ e n)) here ∙ ap pattern_of (constant_fibre γ (suc i)) ∙ word_pattern γ (ga γ inA).numbers in
-    let child : q.0.child ≡ i = ap (λ (p : Question). p.child) asked.0 ∙ omega (arith, here) in
-    let text : q.0.word ≡ γ = ap (λ (p : Question). p.word) asked.0 ∙ word in
-    let o = ((outside_is (child_of x q.0.child) q.0.word).0 q.2).1 in
-    (o.0, subst (λ n. In o.0 (child_of x n).avoid) child o.1, subst (λ v. Contains v o.0) text o.2)
 
 -- the avoided words of a name that doesn't leave the class cover those of the claim's name
 covered_class : (first n : Name) → leaves_class first n ≡ false → Covers first.avoid n.avoid
@@ -160,6 +132,6 @@ module _ (π : List ℕ) (n : Name) (nss : List (List Name)) (w : IsWord π) (ow
         top = subst (λ ws. top ws ≡ ws) (sym r.3) (top_same (child_of l.cell r.0).require fit.long tidy.maximal);
         covers = λ b j.
             let a = covers b j in
-            let o = cell_avoids π n.avoid n.require a.0 l.cell r.0 own.avoids a.1 done here in
+            let o = done_child_avoids π n.avoid n.require a.0 l.cell r.0 own.avoids a.1 done here in
             (o.0, subst (In o.0) (sym r.2) o.1, contains_trans b a.0 o.0 a.2 o.2);
       }

@@ -19,11 +19,11 @@ use Rattle.av_embed.proofs.EmbeddingList.{embedding_from, embedding_to}
 use Rattle.av_sys.specs.declared.names.Constraint.{Constraint}
 use Rattle.av_sys.specs.Names.{Meets}
 use Rattle.av_name.specs.declared.constraints.Known.{Known}
-use Rattle.av_name.specs.declared.constraints.Known.TheVariants.{Open}
+use Rattle.av_name.specs.declared.constraints.Known.TheVariants.{Inside, Open}
 use Rattle.av_name.specs.Constraints.{free, known_of}
 use Rattle.av_name.proofs.KnownPatterns.{inside_says, outside_says, outside_is, free_meets}
 use Rattle.av_name.proofs.Growth.{IsFit, avoid_fit, require_fit, known_of_avoid, known_of_require, meets_avoid, meets_require, clean_avoid, clean_require}
-use Rattle.av_split.specs.Split.{Demand, questions_of, all_of, some_of, demand_known}
+use Rattle.av_split.specs.Split.{Demand, questions_of, all_of, some_of, demand_known, demands_known}
 use Rattle.av_split.specs.Boxes.{Question, Box, child_of, added, word_rules, ask, questions, demand, demands, boxes}
 use Rattle.av_split.specs.Laws.{IsTidy, Splits, SplitLaw}
 use Rattle.av_split.specs.Marks.{once}
@@ -290,16 +290,12 @@ pub nonempty_has : (l : List ℕ) → (l ≡ [] → ⊥) → (x : ℕ) × In x l
 nonempty_has [] h = absurd (h refl)
 nonempty_has (x ∷ l) h = (x, inl refl)
 
--- each avoided word of a name contains an avoided word of each child of each box
-pub child_avoids : (π : List ℕ) (A R : List (List ℕ)) (γ : List ℕ) (x : Box) (i : ℕ) → Each IsWord A → Each IsWord R → In γ A → In x (boxes π A R) → i < length π
+-- where all demands of a name are done in a cell, each avoided word of the name contains an avoided word of each child
+pub done_child_avoids : (π : List ℕ) (A R : List (List ℕ)) (γ : List ℕ) (x : Box) (i : ℕ) → Each IsWord A → In γ A → demands_known (word_rules.known x) (demands π A R) ≡ Inside → i < length π
     → (a : List ℕ) × In a (child_of x i).avoid × Contains γ a
-child_avoids π A R γ x i ga gr inA hx hi =
-    let k : ℕ = length π in
-    let ds : List (Demand Question) = demands π A R in
-    let start : Box = replicate (length π) free in
+done_child_avoids π A R γ x i ga inA done hi =
     let f : Question → Known = word_rules.known x in
-    let done = (boxes_done word_rules (Fine k) (Apt k) (word_law k) ds (demands_apt π A R ga gr) start (start_fine k) x hx).0 in
-    let d = each_inside (demand_known f) ds done (demand π false γ) (append_left (map (demand π false) A) (map (demand π true) R) (demand π false γ) (map_In (demand π false) A γ inA)) in
+    let d = each_inside (demand_known f) (demands π A R) done (demand π false γ) (append_left (map (demand π false) A) (map (demand π true) R) (demand π false γ) (map_In (demand π false) A γ inA)) in
     let out = unflipped (some_of (all_of f) (map (questions π γ) (embeddings π γ))) d in
     let e : List ℕ = replicate (length γ) (suc i) in
     let m = each_outside (all_of f) (map (questions π γ) (embeddings π γ)) out (questions π γ e) (map_In (questions π γ) (embeddings π γ) e (embedding_to π γ e (constant π γ i hi))) in
@@ -314,6 +310,14 @@ child_avoids π A R γ x i ga gr inA hx hi =
     let text : q.0.word ≡ γ = ap (λ (p : Question). p.word) asked.0 ∙ word in
     let o = ((outside_is (child_of x q.0.child) q.0.word).0 q.2).1 in
     (o.0, subst (λ n. In o.0 (child_of x n).avoid) child o.1, subst (λ v. Contains v o.0) text o.2)
+
+-- so it does in each box of the name
+pub child_avoids : (π : List ℕ) (A R : List (List ℕ)) (γ : List ℕ) (x : Box) (i : ℕ) → Each IsWord A → Each IsWord R → In γ A → In x (boxes π A R) → i < length π
+    → (a : List ℕ) × In a (child_of x i).avoid × Contains γ a
+child_avoids π A R γ x i ga gr inA hx hi =
+    let k : ℕ = length π in
+    let done = boxes_done word_rules (Fine k) (Apt k) (word_law k) (demands π A R) (demands_apt π A R ga gr) (replicate k free) (start_fine k) x hx in
+    done_child_avoids π A R γ x i ga inA done.0 hi
 
 -- the boxes of a root and a name
 pub split_is : (π : List ℕ) (A R : List (List ℕ)) → IsWord π → Each IsWord A → Each IsWord R → Splits π A R
