@@ -23,7 +23,7 @@ use Rattle.av_check.specs.ClaimLaws.{version_text, passed_text, required_text, t
 use Rattle.av_check.specs.Reading.{IsVersion, list_tokens, equation_tokens, counts_tokens, counts_line}
 use Rattle.av_check.specs.Verdicts.{words_or_none}
 use Rattle.av_check.proofs.Joins.{Pass}
-use Rattle.av_check.proofs.Tokens.{list_pass, equation_pass, counts_pass, equation_joined, counts_joined, words_joined}
+use Rattle.av_check.proofs.TokenLines.{list_pass, equation_pass, counts_pass, equation_joined, counts_joined, words_joined}
 
 -- bytes before a line feed are a line
 line_cut : (l rest : List ℕ) → All (λ c. is_line_feed c ≡ false) l → script_lines (l ++ 10 ∷ rest) ≡ strip_carriage_return l ∷ script_lines rest

@@ -32,7 +32,7 @@ use Rattle.av_check.specs.Checks.{IsShortName, IsTaken}
 use Rattle.av_check.specs.Outcomes.{IsGrowable}
 use Rattle.av_check.specs.Ends.{end_flaw, IsGrowableEnd, IsLeft}
 use Rattle.av_check.proofs.BareCells.{bare_growable}
-use Rattle.av_check.proofs.EquationTerms.{In_names}
+use Rattle.av_check.proofs.ListedTerms.{In_names}
 
 -- an end that is given is that of the first leaf of those left
 pub given_leaf : (r : Result CellEnd Memory) (end : CellEnd) (before after : List (Leaf Box)) → r ≡ Ok end → Gives (Some r) before after → (l : Leaf Box) × IsEnd end l × (before ≡ l ∷ after)

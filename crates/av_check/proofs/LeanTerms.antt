@@ -36,7 +36,7 @@ use Rattle.av_check.proofs.GrownNames.{grow_once}
 use Rattle.av_check.proofs.VerdictParts.{IsFaultless}
 use Rattle.av_check.proofs.TidyNames.{IsTidyName}
 use Rattle.av_check.proofs.CanonicalTerms.{numbered_names, equation_points, equation_nodes, equation_names}
-use Rattle.av_check.proofs.EquationTerms.{In_names}
+use Rattle.av_check.proofs.ListedTerms.{In_names}
 use Rattle.av_check.proofs.SubSystems.{found_dead}
 use Rattle.av_check.proofs.Completeness.{box_leaves, canon, found_tidy, tidy, first_named, rightly_named, yes_of}
 

@@ -9,6 +9,7 @@ pub mod ListedRoots
 pub mod RightNames
 pub mod CellNames
 pub mod VerdictParts
+pub mod ListedTerms
 pub mod EquationTerms
 pub mod Soundness
 pub mod GoodWalk
@@ -34,7 +35,8 @@ pub mod Spellings
 pub mod RootTexts
 pub mod Lists
 pub mod Terms
-pub mod Tokens
+pub mod TokenLines
+pub mod EquationTokens
 pub mod Announced
 pub mod NextLines
 pub mod Taking

@@ -10,7 +10,7 @@ use Rattle.av_perm.proofs.Tests.{all_from}
 use Rattle.av_print.specs.Text.{◌⊹◌, word_text, joined_or_none, words_text}
 use Rattle.av_print.proofs.Tokens.{pass_wider, pass_joined, pass_both, is_token_byte}
 use Rattle.av_print.proofs.NumberTokens.{numeral_digits, digit_in_token}
-use Rattle.av_check.proofs.Tokens.{list_pass}
+use Rattle.av_check.proofs.TokenLines.{list_pass}
 use Rattle.av_session.specs.Due.{level_text}
 
 -- a byte that stays in its line

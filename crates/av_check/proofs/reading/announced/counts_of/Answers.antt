@@ -2,7 +2,7 @@
 use Rattle.std.proofs.Common.{ap, ◌∙◌}
 use Rattle.av_check.proofs.Loops.{bytes}
 use Rattle.av_check.proofs.ReadAs.{reads_as}
-use Rattle.av_check.proofs.Tokens.{counts_same}
+use Rattle.av_check.proofs.TokenLines.{counts_same}
 use Rattle.av_check.proofs.reading.announced.counts_of.Goals as goal
 
 pub returns : goal.returns

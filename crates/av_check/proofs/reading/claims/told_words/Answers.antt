@@ -2,7 +2,7 @@
 use Rattle.std.proofs.Common.{ap, ◌∙◌}
 use Rattle.av_check.proofs.Loops.{bytes}
 use Rattle.av_check.proofs.ReadAs.{reads_ok_as}
-use Rattle.av_check.proofs.Tokens.{words_same}
+use Rattle.av_check.proofs.TokenLines.{words_same}
 use Rattle.av_check.proofs.reading.claims.told_words.Goals as goal
 
 pub returns : goal.returns

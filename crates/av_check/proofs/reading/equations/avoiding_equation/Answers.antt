@@ -1,6 +1,6 @@
 -- The required words stand before `=`; without it, or where a part of it is wrong, it is no equation.
 use Rattle.av_check.proofs.Loops.{bytes}
-use Rattle.av_check.proofs.Tokens.{made_cut, no_terms}
+use Rattle.av_check.proofs.EquationTokens.{made_cut, no_terms}
 use Rattle.av_check.proofs.reading.equations.avoiding_equation.Goals as goal
 
 pub returns-in_default : goal.returns-in_default

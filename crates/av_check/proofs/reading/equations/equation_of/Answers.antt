@@ -2,7 +2,7 @@
 use Rattle.std.proofs.Common.{ap, ◌∙◌}
 use Rattle.av_check.proofs.Loops.{bytes}
 use Rattle.av_check.proofs.ReadAs.{reads_ok_as}
-use Rattle.av_check.proofs.Tokens.{equation_same}
+use Rattle.av_check.proofs.TokenLines.{equation_same}
 use Rattle.av_check.proofs.reading.equations.equation_of.Goals as goal
 
 pub returns : goal.returns

@@ -1,7 +1,7 @@
 -- A number of an equation is the one expected exactly where its text is.
 use Rattle.std.proofs.Common.{sym, ap, ◌∙◌, arith, eqb-true, eq-eqb}
 use Rattle.av_print.specs.Systems.{number_text}
-use Rattle.av_check.proofs.Tokens.{number_text_once}
+use Rattle.av_check.proofs.EquationTokens.{number_text_once}
 use Rattle.av_check.proofs.reading.equations.is_number.Goals as goal
 
 pub returns-in-Some : goal.returns-in-Some

@@ -1,7 +1,7 @@
 -- The avoided words stand before `require`; without that word it is no equation.
 use Rattle.av_check.proofs.Loops.{bytes}
 use Rattle.av_check.proofs.ReadAs.{reads_ok_as}
-use Rattle.av_check.proofs.Tokens.{avoiding_same, no_required, no_avoided}
+use Rattle.av_check.proofs.EquationTokens.{avoiding_same, no_required, no_avoided}
 use Rattle.av_check.proofs.reading.equations.signed_equation.Goals as goal
 
 pub returns-in_default : goal.returns-in_default

@@ -1,11 +1,10 @@
--- Lines and their tokens, which stand between single spaces.
-use Rattle.std.proofs.Common.{◌≡◌, inl, inr, ℕ, ◌<◌, ◌^◌, Bool, true, false, not, ◌==◌, List, [], ◌∷◌, ◌++◌, map, length, codes, decimal, refl, sym, ap, ap₂, subst, ◌∙◌, append_assoc, append-nil, arith}
+-- A line cut at spaces has the tokens of a value exactly where it is the text of the value.
+use Rattle.std.proofs.Common.{◌≡◌, inl, inr, ℕ, ◌<◌, Bool, true, false, not, ◌==◌, List, [], ◌∷◌, ◌++◌, map, length, codes, decimal, refl, sym, ap, ap₂, subst, ◌∙◌, append_assoc, append-nil, arith}
 use Rattle.std.specs.Char.{is_ascii_digit}
 use Rattle.std.specs.List.{list_all, join_by, slice_split, join_with_byte}
 use Rattle.std.proofs.lemmas.Bool.Decides.{nat_tests}
-use Rattle.std.proofs.lemmas.List.{append_cancel_left, append_cancel_right, length-append}
-use Rattle.av_perm.specs.Members.{In}
-use Rattle.av_perm.proofs.Membership.{In_append_cases, In_map, append_right}
+use Rattle.std.proofs.lemmas.List.{append_cancel_right, length-append}
+use Rattle.av_perm.proofs.Membership.{In_append_cases, In_map}
 use Rattle.av_sys.specs.declared.names.Sign.{Sign}
 use Rattle.av_sys.specs.declared.names.Sign.TheVariants.{C, P, M}
 use Rattle.av_sys.specs.declared.terms.Term.{Term}
@@ -13,18 +12,13 @@ use Rattle.av_sys.specs.declared.terms.Term.TheVariants.{Point, Node}
 use Rattle.av_sys.specs.declared.terms.Equation.{Equation}
 use Rattle.av_print.specs.Text.{word_text, words_text, root_text}
 use Rattle.av_print.specs.Systems.{number_text, children_text, term_text, terms_text, sign_text, name_text, equation_text, counts_text}
-use Rattle.av_print.proofs.UniqueReading.{begins_apart, bytes_apart, numeral_once}
-use Rattle.av_print.proofs.ReadWords.{word_begins}
 use Rattle.av_print.proofs.Tokens.{pass_wider, is_token_byte, pass_both}
 use Rattle.av_print.proofs.NumberTokens.{numeral_digits, digit_in_token}
 use Rattle.av_check.specs.declared.reading.announced.Counts.{Counts}
-use Rattle.av_check.specs.Claims.{IsPattern, ArePatterns}
-use Rattle.av_check.specs.Reading.{list_tokens, barred_tokens, terms_tokens, made_tokens, named_tokens, equation_tokens, counts_tokens, counts_line, IsEquationOf, IsSignedEquation, IsAvoidingEquation, IsFewPatterns, AreCounts}
+use Rattle.av_check.specs.Reading.{list_tokens, barred_tokens, terms_tokens, made_tokens, named_tokens, equation_tokens, counts_tokens, counts_line, IsEquationOf, IsFewPatterns, AreCounts}
 use Rattle.av_check.proofs.Joins.{Pass, join_before, join_append, pieces_joined, joined_pieces}
-use Rattle.av_check.proofs.Lists.{list_some, list_joined, list_lacks}
+use Rattle.av_check.proofs.Lists.{list_some, list_joined}
 use Rattle.av_check.proofs.ReadAs.{SameReadings}
-use Rattle.av_check.proofs.RootTexts.{pattern_short}
-use Rattle.av_check.proofs.Spellings.{pattern_once}
 use Rattle.av_check.proofs.Terms.{number_pass, word_pass, root_pass, children_pass}
 
 -- tokens of two lists
@@ -215,120 +209,3 @@ words_same key line ps spaceless is =
     keyed : (ws : List (List ℕ)) → Pass no_space (key ∷ list_tokens ws)
     keyed ws t (inl e) = subst (λ (u : List ℕ). list_all no_space u ≡ true) (sym e) spaceless
     keyed ws t (inr i) = solid (list_tokens ws) (list_pass ws) t i
-
--- one cut before the first token that is known
-pub cut_once_at : (k : List ℕ) (a b c d : List (List ℕ)) → (In k a → ⊥) → (In k c → ⊥) → a ++ k ∷ b ≡ c ++ k ∷ d → (a ≡ c) × (b ≡ d)
-cut_once_at k [] b [] d p q e = (refl, cc)
-cut_once_at k [] b (y ∷ c) d p q e = absurd (q (inl cc))
-cut_once_at k (x ∷ a) b [] d p q e = absurd (p (inl cc))
-cut_once_at k (x ∷ a) b (y ∷ c) d p q e =
-    let h : x ≡ y = cc in
-    let r = cut_once_at k a b c d (λ i. p (inr i)) (λ i. q (inr i)) cc in
-    (ap₂ (λ (s : List ℕ) (l : List (List ℕ)). s ∷ l) h r.0, r.1)
-
--- the tokens of a list of words are neither `=` nor `require`
-pub no_equals : (ws : List (List ℕ)) → ArePatterns ws → In (codes "=") (list_tokens ws) → ⊥
-no_equals ws p i = list_lacks (codes "=") (λ e. cc) refl ws p i
-
-pub no_require : (ws : List (List ℕ)) → ArePatterns ws → In (codes "require") (list_tokens ws) → ⊥
-no_require ws p i = list_lacks (codes "require") (λ e. cc) refl ws p i
-
--- lists of words with the same tokens are equal
-list_once : (ws vs : List (List ℕ)) → ArePatterns ws → ArePatterns vs → list_tokens ws ≡ list_tokens vs → ws ≡ vs
-list_once ws vs p q e = by ws vs p q e
-  where
-    none : (w : List ℕ) (ts : List (List ℕ)) → codes "none" ∷ [] ≡ word_text w ∷ ts → IsPattern w → ⊥
-    none w ts f r = begins_apart is_ascii_digit (word_text w ++ []) (codes "none" ++ []) (word_begins w [] (pattern_short w r)) refl
-        (ap (λ (s : List ℕ). s ++ []) (let h : word_text w ≡ codes "none" = cc in h))
-
-    each : (us rs : List (List ℕ)) → ArePatterns us → ArePatterns rs → map word_text us ≡ map word_text rs → us ≡ rs
-    each [] [] p q f = refl
-    each [] (r ∷ rs) p q f = cc
-    each (u ∷ us) [] p q f = cc
-    each (u ∷ us) (r ∷ rs) p q f =
-        ap₂ (λ (s : List ℕ) (l : List (List ℕ)). s ∷ l) (pattern_once u r (p u (inl refl)) (q r (inl refl)) cc) (each us rs (λ x i. p x (inr i)) (λ x i. q x (inr i)) cc)
-
-    by : (us rs : List (List ℕ)) → ArePatterns us → ArePatterns rs → list_tokens us ≡ list_tokens rs → us ≡ rs
-    by [] [] p q f = refl
-    by [] (r ∷ rs) p q f = absurd (none r _ f (q r (inl refl)))
-    by (u ∷ us) [] p q f = absurd (none u _ (sym f) (p u (inl refl)))
-    by (u ∷ us) (r ∷ rs) p q f = each (u ∷ us) (r ∷ rs) p q f
-
--- an equation of a sign and avoided words, by the tokens after `require`
-pub avoiding_same : (count : ℕ) (sign : Sign) (avoid tokens before after : List (List ℕ)) → ArePatterns avoid → before ≡ list_tokens avoid
-    → tokens ≡ before ++ codes "require" ∷ after → (In (codes "require") before → ⊥)
-    → SameReadings (IsAvoidingEquation count sign avoid) (IsSignedEquation count sign) made_tokens after named_tokens tokens
-avoiding_same count sign avoid tokens before after are is cut lacks = record { to = λ e p f. to e p f; from = λ e p f. from e p f }
-  where
-    to : (e : Equation) → IsAvoidingEquation count sign avoid e → after ≡ made_tokens e → IsSignedEquation count sign e × (tokens ≡ named_tokens e)
-    to e p f = (
-      record {
-        equation = record { named = record { avoided = subst ArePatterns (sym p.avoids) are; required = p.required }; terms = p.terms };
-        signed = p.signed;
-      },
-      cut ∙ ap₂ (λ (a b : List (List ℕ)). a ++ codes "require" ∷ b) (is ∙ ap list_tokens (sym p.avoids)) f,
-    )
-
-    from : (e : Equation) → IsSignedEquation count sign e → tokens ≡ named_tokens e → IsAvoidingEquation count sign avoid e × (after ≡ made_tokens e)
-    from e p f =
-        let c = cut_once_at (codes "require") before after (list_tokens e.name.avoid) (made_tokens e) lacks (no_require e.name.avoid p.equation.named.avoided) (sym cut ∙ f) in (
-          record {
-            required = p.equation.named.required;
-            terms = p.equation.terms;
-            signed = p.signed;
-            avoids = sym (list_once avoid e.name.avoid are p.equation.named.avoided (sym is ∙ c.0));
-          },
-          c.1,
-        )
-
--- tokens without `require`, and such before which no list of words stands, are those of no equation
-pub no_required : (count : ℕ) (sign : Sign) (tokens : List (List ℕ)) → (In (codes "require") tokens → ⊥)
-    → (e : Equation) → IsSignedEquation count sign e → tokens ≡ named_tokens e → ⊥
-no_required count sign tokens lacks e p f =
-    lacks (subst (λ (l : List (List ℕ)). In (codes "require") l) (sym f) (append_right (list_tokens e.name.avoid) (codes "require" ∷ made_tokens e) (codes "require") (inl refl)))
-
-pub no_avoided : (count : ℕ) (sign : Sign) (tokens before after : List (List ℕ)) → tokens ≡ before ++ codes "require" ∷ after → (In (codes "require") before → ⊥)
-    → ((ws : List (List ℕ)) → ArePatterns ws → before ≡ list_tokens ws → ⊥) → (e : Equation) → IsSignedEquation count sign e → tokens ≡ named_tokens e → ⊥
-no_avoided count sign tokens before after cut lacks none e p f =
-    none e.name.avoid p.equation.named.avoided
-    (cut_once_at (codes "require") before after (list_tokens e.name.avoid) (made_tokens e) lacks (no_require e.name.avoid p.equation.named.avoided) (sym cut ∙ f)).0
-
--- the required words and the terms of tokens that are cut at `=`
-pub made_cut : (tokens before after : List (List ℕ)) (e : Equation) → tokens ≡ before ++ codes "=" ∷ after → (In (codes "=") before → ⊥) → ArePatterns e.name.require
-    → tokens ≡ made_tokens e → (before ≡ list_tokens e.name.require) × (after ≡ terms_tokens e.terms)
-made_cut tokens before after e cut lacks p f =
-    cut_once_at (codes "=") before after (list_tokens e.name.require) (terms_tokens e.terms) lacks (no_equals e.name.require p) (sym cut ∙ f)
-
-pub no_terms : (tokens : List (List ℕ)) (e : Equation) → (In (codes "=") tokens → ⊥) → tokens ≡ made_tokens e → ⊥
-no_terms tokens e lacks f =
-    lacks (subst (λ (l : List (List ℕ)). In (codes "=") l) (sym f) (append_right (list_tokens e.name.require) (codes "=" ∷ terms_tokens e.terms) (codes "=") (inl refl)))
-
--- numbers of equations with the same text are equal, and so are signs
-pub number_text_once : (m n : ℕ) → m < 2 ^ 32 → n < 2 ^ 32 → number_text m ≡ number_text n → m ≡ n
-unfolding number_text
-number_text_once m n few less e = numeral_once m n (omega arith) (omega arith) (append_cancel_left (codes "E") _ _ e)
-
-sign_once : (s r : Sign) → sign_text s ≡ sign_text r → s ≡ r
-sign_once C C e = refl
-sign_once C P e = absurd (bytes_apart _ _ [] [] e refl)
-sign_once C M e = absurd (bytes_apart _ _ [] [] e refl)
-sign_once P C e = absurd (bytes_apart _ _ [] [] e refl)
-sign_once P P e = refl
-sign_once P M e = absurd (bytes_apart _ _ [] [] e refl)
-sign_once M C e = absurd (bytes_apart _ _ [] [] e refl)
-sign_once M P e = absurd (bytes_apart _ _ [] [] e refl)
-sign_once M M e = refl
-
--- an equation by its number, its sign and the other tokens
-pub signed_same : (count u : ℕ) (sign : Sign) (first second third : List ℕ) (others : List (List ℕ)) → first ≡ number_text u → second ≡ sign_text sign → third ≡ codes "avoid"
-    → SameReadings (IsSignedEquation count sign) (IsEquationOf count) named_tokens others (equation_tokens u) (first ∷ second ∷ third ∷ others)
-signed_same count u sign first second third others f s t = record {
-  to = λ e p is. (p.equation, all e p is);
-  from = λ e p is. (
-    record { equation = p; signed = let h : second ≡ sign_text e.name.sign = cc in sign_once e.name.sign sign (sym h ∙ s) },
-    cc,
-  );
-}
-  where
-    all : (e : Equation) → IsSignedEquation count sign e → others ≡ named_tokens e → first ∷ second ∷ third ∷ others ≡ equation_tokens u e
-    all e p is = let g = ap sign_text p.signed in cc
