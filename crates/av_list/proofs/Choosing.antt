@@ -209,7 +209,8 @@ none_later S x none h =
 
 -- where no vertex with the same term is next, it is the first with a later one
 pub next_later : (S : System) (x : Vertex) (o : Option Vertex) → weighed (trees_under S) (same_after x) ≡ 0
-    → MatchOption o (weighed (trees_under S) (vertices_from S x.equation x.size (x.term + 1) (length (terms_at S x.equation) - (x.term + 1))) ≡ 0) (λ y. (left : ℕ) × Picked S x.equation x.size 1 (vertices_from S x.equation x.size (x.term + 1) (length (terms_at S x.equation) - (x.term + 1))) 0 y left)
+    → MatchOption o (weighed (trees_under S) (vertices_from S x.equation x.size (x.term + 1) (length (terms_at S x.equation) - (x.term + 1))) ≡ 0)
+    (λ y. (left : ℕ) × Picked S x.equation x.size 1 (vertices_from S x.equation x.size (x.term + 1) (length (terms_at S x.equation) - (x.term + 1))) 0 y left)
     → MatchOption o (weighed (trees_under S) (vertices_after S x) ≡ 0) (λ y. Picked S x.equation x.size 1 (vertices_after S x) 0 y 0)
 next_later S x None none h = none_later S x none h
 next_later S x (Some y) none h = picked_later S x y h.0 none h.1

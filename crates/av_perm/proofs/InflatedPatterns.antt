@@ -32,7 +32,9 @@ nobody = record { from = 0; to = 0 }
 has_block : (o : ℕ) (a γ e : List ℕ) (z : List Pair) (i : ℕ) → froms z ≡ γ → Agree z → Placed (fibre z e i) (raised o a) → Has a (fibre γ e i)
 has_block o a γ e z i q g h =
     let d = Placed_down o (fibre z e i) a h in
-    let lift : (p : Pair) → In p d.0 → In (record { from = p.from; to = p.to + o }) z = λ p k. fibre_In z e i (record { from = p.from; to = p.to + o }) nobody (subst (In (record { from = p.from; to = p.to + o })) d.1 (map_In (λ (r : Pair). record { from = r.from; to = r.to + o }) d.0 p k)) in (
+    let lift : (p : Pair) → In p d.0 → In (record { from = p.from; to = p.to + o }) z =
+    λ p k. fibre_In z e i (record { from = p.from; to = p.to + o }) nobody
+    (subst (In (record { from = p.from; to = p.to + o })) d.1 (map_In (λ (r : Pair). record { from = r.from; to = r.to + o }) d.0 p k)) in (
       d.0,
       sym (up_froms o d.0) ∙ ap froms d.1 ∙ fibre-map (λ (p : Pair). p.from) z e i ∙ ap (λ l. fibre l e i) q,
       d.2,
@@ -109,7 +111,10 @@ containing π γ αs w b c =
     zs : ℕ → List Pair
     zs i = up (raise_of π αs i) (full i).0
 
-    apart : (p q r t : Pair) (i j : ℕ) → i < length π → j < length π → (i ≡ j → ⊥) → In r (full i).0 → p ≡ record { from = r.from; to = r.to + raise_of π αs i } → In t (full j).0 → q ≡ record { from = t.from; to = t.to + raise_of π αs j } → (p.from < q.from) ↔ (p.to < q.to)
+    apart : (p q r t : Pair) (i j : ℕ) → i < length π → j < length π → (i ≡ j → ⊥)
+        → In r (full i).0 → p ≡ record { from = r.from; to = r.to + raise_of π αs i }
+        → In t (full j).0 → q ≡ record { from = t.from; to = t.to + raise_of π αs j }
+        → (p.from < q.from) ↔ (p.to < q.to)
     apart p q r t i j hi hj ne ir ep it eq =
         let stands : (k : ℕ) (u : Pair) → In u (full k).0 → In (u.to + raise_of π αs k) (lifted π αs k) = λ k u iu. map_In (λ v. v + raise_of π αs k) (block αs k) u.to (Placed_In (full k).0 (block αs k) u (full k).2 iu) in
         let place : (k : ℕ) (u : Pair) → In u (full k).0 → (s : ℕ) × (s < length γ) × (s < length e) × (at e s ≡ k) × (at γ s ≡ u.from) = λ k u iu. fibre_at γ e k u.from 0 (subst (In u.from) (full k).1 (map_In (λ (v : Pair). v.from) (full k).0 u iu)) in

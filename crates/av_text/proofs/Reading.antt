@@ -27,7 +27,11 @@ line_or (Some first) union = Some first
 
 -- the script of a text whose earlier lines said what was heard, and whose other lines, from number n on, say the rest
 abbrev pub script_after : ℕ → Heard → Result (List Says) Fault → Result Script Fault
-script_after n heard rest = rest >>= (λ said. script_with (option_to_list heard.basis ++ filter_map basis_in said) (line_or heard.union_with (union_line n said)) (first_of (option_to_list heard.require ++ filter_map required_in said)) (first_of (option_to_list heard.format ++ filter_map format_in said)) (heard.queries ++ filter_map query_in said))
+script_after n heard rest =
+    rest >>= (λ said.
+    script_with (option_to_list heard.basis ++ filter_map basis_in said) (line_or heard.union_with (union_line n said))
+    (first_of (option_to_list heard.require ++ filter_map required_in said)) (first_of (option_to_list heard.format ++ filter_map format_in said))
+    (heard.queries ++ filter_map query_in said))
 
 -- the same, where the other lines are these
 abbrev pub read_on : ℕ → Heard → List (List ℕ) → Result Script Fault

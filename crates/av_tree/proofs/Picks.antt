@@ -269,7 +269,9 @@ placed_front S c cs n F x k ps inner result one le rank w is =
     record {
       place = r;
       is = is;
-      within = subst (λ z. r < F * z) (sym (ways_cons (count_at S) c cs n)) (inside_all F (ahead (count_at S c) (ways (count_at S) cs) n 1 (k.size - 1)) T (ways (count_at S) cs (n - k.size)) (ahead (count_at S c) (ways (count_at S) cs) n 1 n) w.place (ahead_part (count_at S c) (ways (count_at S) cs) n k.size one le) w.within);
+      within = subst (λ z. r < F * z) (sym (ways_cons (count_at S) c cs n))
+          (inside_all F (ahead (count_at S c) (ways (count_at S) cs) n 1 (k.size - 1)) T (ways (count_at S) cs (n - k.size))
+          (ahead (count_at S c) (ways (count_at S) cs) n 1 n) w.place (ahead_part (count_at S c) (ways (count_at S) cs) n k.size one le) w.within);
       chosen = subst (λ z. Chosen S (c ∷ cs) n F r z (k ∷ ps)) b.0 (subst (λ z. Chosen S (c ∷ cs) n F r ((x * T + k.rank) / T) (record { size = k.size; rank = z } ∷ ps)) b.1 st);
     }
   where

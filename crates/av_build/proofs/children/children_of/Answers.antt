@@ -36,7 +36,9 @@ loop-constraint-preserved c =
     record {
       numbered =
           numbered_next (child_names c.args.first c.args.constraints) _ c.args.names.now c.loop-constraint.names c.number.new.self (name_of c.loop-constraint.sign c.in-Some.constraint) c.loop-constraint.children c.push.new.self c.in_ok-number.field-0
-          (first_left c.loop-constraint.sign c.in-Some.constraint c.loop-constraint.constraint-iterator.rest.items c.next.new.self.rest.items (child_names c.args.first c.args.constraints) c.args.names.now c.loop-constraint.names c.loop-constraint.children (c.in-Some.ensures.steps).0 c.loop-constraint.invariant.numbered)
+          (first_left c.loop-constraint.sign c.in-Some.constraint c.loop-constraint.constraint-iterator.rest.items c.next.new.self.rest.items
+          (child_names c.args.first c.args.constraints) c.args.names.now c.loop-constraint.names c.loop-constraint.children
+          (c.in-Some.ensures.steps).0 c.loop-constraint.invariant.numbered)
           c.in_ok-number.ensures.grows c.in_ok-number.ensures.number c.in_ok-push.ensures.ok;
       few = omega (arith, c.loop-constraint.invariant.few, more, rest, ap length c.in_ok-number.ensures.grows);
     }
@@ -49,5 +51,7 @@ nothing_left (x ∷ xs) n e z = absurd (omega (arith, e, z))
 pub returns : goal.returns
 returns c =
     let rest = nothing_left c.loop-constraint.constraint-iterator.rest.items c.loop-constraint.constraint-iterator.rest.len (sym (c.loop-constraint.constraint-iterator.rest.ok).0) (c.in-None.ensures.steps).0 in
-    let numbered = all_numbered (child_names c.args.first c.args.constraints) (child_names c.loop-constraint.sign c.loop-constraint.constraint-iterator.rest.items) c.args.names.now c.loop-constraint.names c.loop-constraint.children (ap (child_names c.loop-constraint.sign) rest) c.loop-constraint.invariant.numbered in
+    let numbered =
+    all_numbered (child_names c.args.first c.args.constraints) (child_names c.loop-constraint.sign c.loop-constraint.constraint-iterator.rest.items)
+    c.args.names.now c.loop-constraint.names c.loop-constraint.children (ap (child_names c.loop-constraint.sign) rest) c.loop-constraint.invariant.numbered in
     record { found = numbered.0; numbers = numbered.1 }

@@ -42,7 +42,10 @@ pub returns-then-not-branch-clause-adds : goal.returns-then-not-branch-clause-ad
 returns-then-not-branch-clause-adds c =
     let f = box_draft c.args.first c.args.root.now in
     let first = taken c.in-Some.found c.in_ok-found.field-0 c.loop-found.boxes c.next.new.self c.in_ok-found.was c.in-Some.ensures in
-    adding_stop (f c.in_ok-found.field-0 ∷ []) (map f c.next.new.self) (first_left f c.in_ok-found.field-0 c.loop-found.boxes c.next.new.self c.args.limit (root_drafts c.args.first c.args.name.now c.args.root.now) c.args.names.now c.loop-found.names c.args.terms.now c.loop-found.terms first c.loop-found.invariant.adding)
+    adding_stop (f c.in_ok-found.field-0 ∷ []) (map f c.next.new.self)
+    (first_left f c.in_ok-found.field-0 c.loop-found.boxes c.next.new.self c.args.limit
+    (root_drafts c.args.first c.args.name.now c.args.root.now) c.args.names.now c.loop-found.names c.args.terms.now c.loop-found.terms
+    first c.loop-found.invariant.adding)
     c.in_ok-push_term.ensures.adds c.if-not-branch.true
 
 pub loop-found-preserved : goal.loop-found-preserved
@@ -51,7 +54,10 @@ loop-found-preserved c =
     let first = taken c.in-Some.found c.in_ok-found.field-0 c.loop-found.boxes c.next.new.self c.in_ok-found.was c.in-Some.ensures in
     record {
       adding =
-          adding_next (f c.in_ok-found.field-0 ∷ []) (first_left f c.in_ok-found.field-0 c.loop-found.boxes c.next.new.self c.args.limit (root_drafts c.args.first c.args.name.now c.args.root.now) c.args.names.now c.loop-found.names c.args.terms.now c.loop-found.terms first c.loop-found.invariant.adding)
+          adding_next (f c.in_ok-found.field-0 ∷ [])
+          (first_left f c.in_ok-found.field-0 c.loop-found.boxes c.next.new.self c.args.limit
+          (root_drafts c.args.first c.args.name.now c.args.root.now) c.args.names.now c.loop-found.names c.args.terms.now c.loop-found.terms
+          first c.loop-found.invariant.adding)
           c.in_ok-push_term.ensures.adds c.if-not-branch.false (c.in_ok-push_term.ensures.within c.if-not-branch.false);
       sized = λ b i. c.loop-found.invariant.sized b (subst (In b) (sym first) (inr i));
     }

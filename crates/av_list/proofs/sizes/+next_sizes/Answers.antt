@@ -62,4 +62,8 @@ returns-clause-ended t c e =
     let none = c.next_sizes.ensures.ended c.if-next_sizes.false in
     ended_at f cs ms c.args.i c.args.size less c.requires.placed k
     (subst (λ z. weighed (weight (count_at c.args.node.now.table.now.system) (drop (c.args.i + 1) c.args.node.now.children.now)) (sizes_after (drop (c.args.i + 1) c.args.sizes.now) (c.args.size - z)) ≡ 0) c.get-own.ensures none)
-    (subst (λ z. ahead (count_at c.args.node.now.table.now.system (get_or c.args.node.now.children.now c.args.i 0)) (ways (count_at c.args.node.now.table.now.system) (drop (c.args.i + 1) c.args.node.now.children.now)) c.args.size (z + 1) (c.args.size + 1 - (z + 1)) ≡ 0) c.get-own.ensures (c.begin_sizes.ensures.ended e))
+    (subst (λ z.
+    ahead (count_at c.args.node.now.table.now.system (get_or c.args.node.now.children.now c.args.i 0))
+    (ways (count_at c.args.node.now.table.now.system) (drop (c.args.i + 1) c.args.node.now.children.now))
+    c.args.size (z + 1) (c.args.size + 1 - (z + 1)) ≡ 0)
+    c.get-own.ensures (c.begin_sizes.ensures.ended e))

@@ -15,5 +15,7 @@ returns-then-leaves_lists c = record {
 
 pub loop-below-preserved : goal.loop-below-preserved
 loop-below-preserved c =
-    ahead_none (count_at c.args.node.now.table.now.system (get_or c.args.node.now.children.now c.args.i 0)) (ways (count_at c.args.node.now.table.now.system) (drop (c.args.i + 1) c.args.node.now.children.now)) c.args.size c.args.least (c.loop-below.below + 1) (omega (arith, c.loop-below.auto.below, c.requires.one)) c.loop-below.invariant
+    ahead_none (count_at c.args.node.now.table.now.system (get_or c.args.node.now.children.now c.args.i 0))
+    (ways (count_at c.args.node.now.table.now.system) (drop (c.args.i + 1) c.args.node.now.children.now))
+    c.args.size c.args.least (c.loop-below.below + 1) (omega (arith, c.loop-below.auto.below, c.requires.one)) c.loop-below.invariant
     (λ h. true≢false (sym (c.leaves_lists.ensures.1 h) ∙ c.if-leaves_lists.false))

@@ -26,24 +26,47 @@ returns-in-None c =
     absurd (place_none c.args.system.now c.args.table.now.system c.requires.formed c.args.due c.args.derivation.now.due c.args.r c.factor_after-factor.result c.requires.stands c.requires.within c.factor_after-factor.ensures (λ F h. c.in-None.ensures F h))
 
 pub put-requires-clause-derives : goal.put-requires-clause-derives
-put-requires-clause-derives c = (place_all c.args.system.now c.args.table.now.system c.requires.formed c.args.derivation.now.size c.requires.least c.requires.some c.args.due c.args.derivation.now.placed c.args.derivation.now.due c.args.r c.in-Some.pick.left c.factor_after-factor.result c.in-Some.pick.vertex c.requires.stands c.requires.derives c.requires.within c.factor_after-factor.ensures (λ F h. c.in-Some.ensures F h)).derives
+put-requires-clause-derives c =
+    (place_all c.args.system.now c.args.table.now.system c.requires.formed c.args.derivation.now.size c.requires.least c.requires.some
+    c.args.due c.args.derivation.now.placed c.args.derivation.now.due c.args.r c.in-Some.pick.left c.factor_after-factor.result c.in-Some.pick.vertex
+    c.requires.stands c.requires.derives c.requires.within c.factor_after-factor.ensures (λ F h. c.in-Some.ensures F h)).derives
 
 pub returns-in-Some-clause-same : goal.returns-in-Some-clause-same
 returns-in-Some-clause-same c =
-    (placed_as c.args.system.now c.args.derivation.now.size c.args.due c.args.derivation.now.placed c.args.derivation.now.due c.args.r (c.in-Some.pick.vertex ∷ c.args.derivation.now.placed) c.put.new.derivation.placed (dues_below c.args.system.now c.in-Some.pick.vertex ++ c.args.derivation.now.due) c.put.new.derivation.due c.in-Some.pick.left c.put.ensures.placed c.put.ensures.due
-    (place_all c.args.system.now c.args.table.now.system c.requires.formed c.args.derivation.now.size c.requires.least c.requires.some c.args.due c.args.derivation.now.placed c.args.derivation.now.due c.args.r c.in-Some.pick.left c.factor_after-factor.result c.in-Some.pick.vertex c.requires.stands c.requires.derives c.requires.within c.factor_after-factor.ensures (λ F h. c.in-Some.ensures F h))).same
+    (placed_as c.args.system.now c.args.derivation.now.size c.args.due c.args.derivation.now.placed c.args.derivation.now.due c.args.r
+    (c.in-Some.pick.vertex ∷ c.args.derivation.now.placed) c.put.new.derivation.placed
+    (dues_below c.args.system.now c.in-Some.pick.vertex ++ c.args.derivation.now.due) c.put.new.derivation.due
+    c.in-Some.pick.left c.put.ensures.placed c.put.ensures.due
+    (place_all c.args.system.now c.args.table.now.system c.requires.formed c.args.derivation.now.size c.requires.least c.requires.some
+    c.args.due c.args.derivation.now.placed c.args.derivation.now.due c.args.r c.in-Some.pick.left c.factor_after-factor.result c.in-Some.pick.vertex
+    c.requires.stands c.requires.derives c.requires.within c.factor_after-factor.ensures (λ F h. c.in-Some.ensures F h))).same
 
 pub returns-in-Some-clause-within : goal.returns-in-Some-clause-within
 returns-in-Some-clause-within c =
-    (placed_as c.args.system.now c.args.derivation.now.size c.args.due c.args.derivation.now.placed c.args.derivation.now.due c.args.r (c.in-Some.pick.vertex ∷ c.args.derivation.now.placed) c.put.new.derivation.placed (dues_below c.args.system.now c.in-Some.pick.vertex ++ c.args.derivation.now.due) c.put.new.derivation.due c.in-Some.pick.left c.put.ensures.placed c.put.ensures.due
-    (place_all c.args.system.now c.args.table.now.system c.requires.formed c.args.derivation.now.size c.requires.least c.requires.some c.args.due c.args.derivation.now.placed c.args.derivation.now.due c.args.r c.in-Some.pick.left c.factor_after-factor.result c.in-Some.pick.vertex c.requires.stands c.requires.derives c.requires.within c.factor_after-factor.ensures (λ F h. c.in-Some.ensures F h))).within
+    (placed_as c.args.system.now c.args.derivation.now.size c.args.due c.args.derivation.now.placed c.args.derivation.now.due c.args.r
+    (c.in-Some.pick.vertex ∷ c.args.derivation.now.placed) c.put.new.derivation.placed
+    (dues_below c.args.system.now c.in-Some.pick.vertex ++ c.args.derivation.now.due) c.put.new.derivation.due
+    c.in-Some.pick.left c.put.ensures.placed c.put.ensures.due
+    (place_all c.args.system.now c.args.table.now.system c.requires.formed c.args.derivation.now.size c.requires.least c.requires.some
+    c.args.due c.args.derivation.now.placed c.args.derivation.now.due c.args.r c.in-Some.pick.left c.factor_after-factor.result c.in-Some.pick.vertex
+    c.requires.stands c.requires.derives c.requires.within c.factor_after-factor.ensures (λ F h. c.in-Some.ensures F h))).within
 
 pub returns-in-Some-clause-derives : goal.returns-in-Some-clause-derives
 returns-in-Some-clause-derives c =
-    (placed_as c.args.system.now c.args.derivation.now.size c.args.due c.args.derivation.now.placed c.args.derivation.now.due c.args.r (c.in-Some.pick.vertex ∷ c.args.derivation.now.placed) c.put.new.derivation.placed (dues_below c.args.system.now c.in-Some.pick.vertex ++ c.args.derivation.now.due) c.put.new.derivation.due c.in-Some.pick.left c.put.ensures.placed c.put.ensures.due
-    (place_all c.args.system.now c.args.table.now.system c.requires.formed c.args.derivation.now.size c.requires.least c.requires.some c.args.due c.args.derivation.now.placed c.args.derivation.now.due c.args.r c.in-Some.pick.left c.factor_after-factor.result c.in-Some.pick.vertex c.requires.stands c.requires.derives c.requires.within c.factor_after-factor.ensures (λ F h. c.in-Some.ensures F h))).derives
+    (placed_as c.args.system.now c.args.derivation.now.size c.args.due c.args.derivation.now.placed c.args.derivation.now.due c.args.r
+    (c.in-Some.pick.vertex ∷ c.args.derivation.now.placed) c.put.new.derivation.placed
+    (dues_below c.args.system.now c.in-Some.pick.vertex ++ c.args.derivation.now.due) c.put.new.derivation.due
+    c.in-Some.pick.left c.put.ensures.placed c.put.ensures.due
+    (place_all c.args.system.now c.args.table.now.system c.requires.formed c.args.derivation.now.size c.requires.least c.requires.some
+    c.args.due c.args.derivation.now.placed c.args.derivation.now.due c.args.r c.in-Some.pick.left c.factor_after-factor.result c.in-Some.pick.vertex
+    c.requires.stands c.requires.derives c.requires.within c.factor_after-factor.ensures (λ F h. c.in-Some.ensures F h))).derives
 
 pub returns-in-Some-clause-less : goal.returns-in-Some-clause-less
 returns-in-Some-clause-less c =
-    (placed_as c.args.system.now c.args.derivation.now.size c.args.due c.args.derivation.now.placed c.args.derivation.now.due c.args.r (c.in-Some.pick.vertex ∷ c.args.derivation.now.placed) c.put.new.derivation.placed (dues_below c.args.system.now c.in-Some.pick.vertex ++ c.args.derivation.now.due) c.put.new.derivation.due c.in-Some.pick.left c.put.ensures.placed c.put.ensures.due
-    (place_all c.args.system.now c.args.table.now.system c.requires.formed c.args.derivation.now.size c.requires.least c.requires.some c.args.due c.args.derivation.now.placed c.args.derivation.now.due c.args.r c.in-Some.pick.left c.factor_after-factor.result c.in-Some.pick.vertex c.requires.stands c.requires.derives c.requires.within c.factor_after-factor.ensures (λ F h. c.in-Some.ensures F h))).less
+    (placed_as c.args.system.now c.args.derivation.now.size c.args.due c.args.derivation.now.placed c.args.derivation.now.due c.args.r
+    (c.in-Some.pick.vertex ∷ c.args.derivation.now.placed) c.put.new.derivation.placed
+    (dues_below c.args.system.now c.in-Some.pick.vertex ++ c.args.derivation.now.due) c.put.new.derivation.due
+    c.in-Some.pick.left c.put.ensures.placed c.put.ensures.due
+    (place_all c.args.system.now c.args.table.now.system c.requires.formed c.args.derivation.now.size c.requires.least c.requires.some
+    c.args.due c.args.derivation.now.placed c.args.derivation.now.due c.args.r c.in-Some.pick.left c.factor_after-factor.result c.in-Some.pick.vertex
+    c.requires.stands c.requires.derives c.requires.within c.factor_after-factor.ensures (λ F h. c.in-Some.ensures F h))).less

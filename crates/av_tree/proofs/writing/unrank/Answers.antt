@@ -17,7 +17,9 @@ pub unwrap-requires : goal.unwrap-requires
 unwrap-requires c =
     let below = (past_members c.args.system.now c.args.table.now.system c.args.n c.args.r c.get.result c.past.result c.requires.stands c.get.ensures c.past.ensures).1 (sym c.is_some.ensures ∙ c.if-is_some.false) in
     let x = member_word c.args.system.now (subst IsWellFormed c.requires.stands c.largest-largest.ensures.formed) 0 c.args.n c.args.r below in
-    c.from_entries.ensures.which.1 (subst (λ (z : List ℕ). is_perm z ≡ true) (sym (written_first c.as_slice.result.now c.push_member.new.out.items c.new-out.result.items (get_or (members_at c.args.system.now 0 c.args.n) c.args.r []) c.as_slice.ensures.value c.push_member.ensures c.new-out.ensures))
+    c.from_entries.ensures.which.1 (subst (λ (z : List ℕ). is_perm z ≡ true)
+    (sym (written_first c.as_slice.result.now c.push_member.new.out.items c.new-out.result.items
+    (get_or (members_at c.args.system.now 0 c.args.n) c.args.r []) c.as_slice.ensures.value c.push_member.ensures c.new-out.ensures))
     (perm_to (get_or (members_at c.args.system.now 0 c.args.n) c.args.r []) x.word (omega (arith, x.long, c.requires.most, c.largest-largest.ensures.value, c.largest-largest.ensures.most))))
 
 pub returns : goal.returns
