@@ -97,7 +97,9 @@ apt_literals S root e ps ts named terms t i l j = (child, word)
         literal_words 0 ns.0 (root_words S (all_each (λ (e : Equation). IsMadeOfWords e.name) S.equations named) root e.terms ns.0 ns.1) l (subst (In l) ns.2 j)
 
 -- all questions are apt
-pub apt_questions : (π : List ℕ) (A R : List (List ℕ)) (us : List (List (Literal Question))) → Each IsWord A → Each IsWord R → ((t : List (Literal Question)) → In t us → (l : Literal Question) → In l t → IsAptLiteral (length π) l) → Each (Apt (length π)) (questions_with (demands π A R) us)
+pub apt_questions : (π : List ℕ) (A R : List (List ℕ)) (us : List (List (Literal Question))) → Each IsWord A → Each IsWord R
+    → ((t : List (Literal Question)) → In t us → (l : Literal Question) → In l t → IsAptLiteral (length π) l)
+    → Each (Apt (length π)) (questions_with (demands π A R) us)
 apt_questions π A R us ga gr h q i = elim (In_append_cases (questions_of (demands π A R)) (flat_map (λ (t : List (Literal Question)). map (λ (l : Literal Question). l.question) t) us) q i) [
   | inl j ↦ demands_apt π A R ga gr q j
   | inr j ↦

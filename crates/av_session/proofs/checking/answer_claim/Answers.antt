@@ -18,7 +18,9 @@ answer_read-requires-clause-claim g c = claim_taken c.args.bytes.now c.in-Ok.cla
 
 pub returns-in-Err-Refused-clause-text : goal.returns-in-Err-Refused-clause-text
 returns-in-Err-Refused-clause-text g c told p =
-    subst (λ t. HoldsText c.refuse.result (g.K.Sink.held c.args.sink.now) (g.K.Sink.held c.refuse.new.sink) (told_text c.args.options.now t)) (told_once c.args.bytes.now (Err (record { line = c.in-Err-Refused.line; kind = c.in-Err-Refused.kind })) told (rw c.in-Err-Refused.field-0-is at c.in-Err-Refused.ensures) p) c.refuse.ensures.text
+    subst (λ t. HoldsText c.refuse.result (g.K.Sink.held c.args.sink.now) (g.K.Sink.held c.refuse.new.sink) (told_text c.args.options.now t))
+    (told_once c.args.bytes.now (Err (record { line = c.in-Err-Refused.line; kind = c.in-Err-Refused.kind })) told (rw c.in-Err-Refused.field-0-is at c.in-Err-Refused.ensures) p)
+    c.refuse.ensures.text
 
 pub returns-in-Err-Refused-clause-fits : goal.returns-in-Err-Refused-clause-fits
 returns-in-Err-Refused-clause-fits g c told p =
