@@ -1,4 +1,4 @@
--- What goes down behind `start` still does one place further on.
+-- The entries from `start` on fall to the end, and still do with a greater entry before them.
 use Rattle.std.proofs.Common.{◌-◌, arith, length}
 use Rattle.av_perm.proofs.LexOrder.{descends_last, descends_more}
 use Rattle.av_perm.proofs.lex.last_descent.Goals as goal

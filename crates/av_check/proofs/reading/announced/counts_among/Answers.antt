@@ -1,4 +1,4 @@
--- It has six tokens, of which four are fixed.
+-- The line of the counts has six tokens: three are fixed, and each is followed by a numeral.
 use Rattle.std.proofs.Common.{◌≡◌, length, refl, sym, subst, arith}
 use Rattle.av_check.specs.Reading.{Reads, AreCounts, counts_tokens}
 use Rattle.av_check.proofs.Loops.{all_six}

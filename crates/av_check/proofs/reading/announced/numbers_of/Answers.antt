@@ -1,4 +1,4 @@
--- The two numbers of a system, each within its bounds.
+-- The version, the number of equations and that of terms are each within their bounds, or there are no such counts.
 use Rattle.av_check.proofs.Announced.{no_terms}
 use Rattle.av_check.proofs.reading.announced.numbers_of.Goals as goal
 
