@@ -3,7 +3,7 @@ use Rattle.std.proofs.Common.{◌≡◌, ℕ, zero, suc, ◌+◌, ◌<◌, ◌�
 use Rattle.std.proofs.lemmas.List.{map-append}
 use Rattle.std.proofs.lemmas.List.Elements.{filter-append}
 use Rattle.av_perm.specs.Lists.{counting}
-use Rattle.av_perm.proofs.LexOrder.{counting_more}
+use Rattle.av_perm.proofs.RisingLists.{counting_more}
 use Rattle.av_bars.specs.declared.bars.Bar.{Bar}
 use Rattle.av_bars.specs.Histograms.{bar, bar_at, bars_of}
 

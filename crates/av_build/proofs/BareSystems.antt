@@ -19,7 +19,7 @@ use Rattle.av_sys.specs.Names.{Means}
 use Rattle.av_sys.specs.Terms.{IsWellFormed}
 use Rattle.av_sys.specs.Trees.{Tree, IsTree}
 use Rattle.av_sys.specs.Exact.{MeansAt, NamedUpTo}
-use Rattle.av_build.specs.Canonical.{Grown, grow_from, grown_size, as_system, system_size, IsAbove, IsWithin, IsCanonicalFrom, is_void, bare, first_name, grow_class}
+use Rattle.av_build.specs.Canonical.{Grown, grow_from, grown_size, as_system, system_size, IsAbove, IsGrownWithin, IsCanonicalFrom, is_void, bare, first_name, grow_class}
 use Rattle.av_build.specs.Laws.{IsNameOver, HasSize, SizeLaw, BareLaw}
 use Rattle.av_build.proofs.Growing.{NameAt, canonical}
 use Rattle.av_build.proofs.GrownSizes.{name_size}
@@ -79,7 +79,7 @@ grow_cases roots name = elim (cases_Bool (is_void name)) [
 ]
 
 -- what has grown alike is within the same limits
-pub within_same : (g h : ℕ → Grown) → ((j : ℕ) → g j ≡ h j) → (limit : ℕ) (S : System) → IsWithin g limit S → IsWithin h limit S
+pub within_same : (g h : ℕ → Grown) → ((j : ℕ) → g j ≡ h j) → (limit : ℕ) (S : System) → IsGrownWithin g limit S → IsGrownWithin h limit S
 within_same g h e limit S w = record {
   fits = let q = ap grown_size (e limit) in let f = w.fits in omega arith;
   system = w.system ∙ ap as_system (e limit);
@@ -90,7 +90,7 @@ pub above_same : (g h : ℕ → Grown) → ((j : ℕ) → g j ≡ h j) → (limi
 above_same g h e limit a = let q = ap grown_size (e limit) in omega arith
 
 -- the system of a class, within the limit, is the bare one of a name that no word means, or the canonical one of the name
-pub class_cases : (roots : List (List ℕ)) (name : Name) (limit : ℕ) (S : System) → IsWithin (grow_class roots name) limit S
+pub class_cases : (roots : List (List ℕ)) (name : Name) (limit : ℕ) (S : System) → IsGrownWithin (grow_class roots name) limit S
     → ((is_void name ≡ true) × (S ≡ as_system (bare name))) ⊎ IsCanonicalFrom roots name limit S
 class_cases roots name limit S w = elim (grow_cases roots name) [
   | inl v ↦ inl (v.0, w.system ∙ ap as_system (v.1 limit))
@@ -98,7 +98,7 @@ class_cases roots name limit S w = elim (grow_cases roots name) [
 ]
 
 -- the bare system has the size 1
-bare_size : (name : Name) (limit : ℕ) (S : System) → IsWithin (λ j. bare name) limit S → HasSize (λ j. bare name) limit S
+bare_size : (name : Name) (limit : ℕ) (S : System) → IsGrownWithin (λ j. bare name) limit S → HasSize (λ j. bare name) limit S
 bare_size name limit S c = record {
   within = let f = c.fits in omega (arith, is);
   same = λ other T d. d.system ∙ sym c.system;
@@ -125,7 +125,7 @@ size_same g h e limit S s = record {
 }
 
 -- the size of the canonical system of a class
-class_size : (roots : List (List ℕ)) (name : Name) (limit : ℕ) (S : System) → IsWithin (grow_class roots name) limit S → HasSize (grow_class roots name) limit S
+class_size : (roots : List (List ℕ)) (name : Name) (limit : ℕ) (S : System) → IsGrownWithin (grow_class roots name) limit S → HasSize (grow_class roots name) limit S
 class_size roots name limit S w = elim (grow_cases roots name) [
   | inl v ↦ size_same (grow_class roots name) (λ j. bare name) v.1 limit S (bare_size name limit S (within_same (grow_class roots name) (λ j. bare name) v.1 limit S w))
   | inr e ↦ size_same (grow_class roots name) (grow_from roots name) e limit S (name_size roots name limit S (within_same (grow_class roots name) (grow_from roots name) e limit S w))
@@ -146,7 +146,7 @@ bare_law basis required roots limit S r b words wanted i j k c = record {
 
 -- where it is the system of the class's name, that is equation 0's
 pub class_first : (roots : List (List ℕ)) (name : Name) (basis : List (List ℕ)) (limit : ℕ) (S : System) → IsNameOver basis name
-    → IsWithin (grow_class roots name) limit S → NameAt S 0 name
+    → IsGrownWithin (grow_class roots name) limit S → NameAt S 0 name
 class_first roots name basis limit S ok w = elim (class_cases roots name limit S w) [
   | inl v ↦ subst (λ (T : System). NameAt T 0 name) (sym v.1) (record { name = name; terms = [] }, refl, refl)
   | inr c ↦ (canonical basis roots name limit S ok c).first

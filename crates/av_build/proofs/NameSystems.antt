@@ -27,7 +27,7 @@ use Rattle.av_build.proofs.Growing.{Canonical, canonical, NameAt}
 use Rattle.av_build.proofs.DraftMeanings.{BlocksMean, HasShape, IsRootDraft, root_draft_is, names_count, draft_root, node_sound, point_sound, some_shape}
 use Rattle.av_build.proofs.DraftsApart.{apart_same, drafts_apart}
 use Rattle.av_sys.proofs.Subtrees.{IsEquation, equation_term}
-use Rattle.av_build.proofs.TermLaws.{MeanAt, HasTermShape, IsTermAt, IsServed, IsRight, mean_at_blocks, at_means, means_at, term_equation, child_shorter, right_up_to}
+use Rattle.av_build.proofs.TermLaws.{MeanAt, HasTermShape, IsTermAt, IsServed, AreSoundTerms, mean_at_blocks, at_means, means_at, term_equation, child_shorter, right_up_to}
 
 -- words that mean the equations of numbers mean their names
 blocks_mean : (S : System) (cs : List ℕ) (ns : List Name) (αs : List (List ℕ)) → Numbered (NameAt S) cs ns → MeanAt S cs αs → BlocksMean ns αs
@@ -120,7 +120,7 @@ module _ (basis roots : List (List ℕ)) (name : Name) (S : System) (c : Canonic
       (subst (λ (e : Equation). slice_get (drafts roots e.name) t ≡ Some b.draft) z b.at_draft) (term_fits S w x a.draft a.stands p) (term_fits S w y b.draft b.stands q)
 
   -- the terms are right
-  pub name_right : Once roots → IsRight S
+  pub name_right : Once roots → AreSoundTerms S
   name_right o = record {
     two = λ u t root cs f. let h = has_node u t root cs f in let l = h.draft.rooted.long in let k = h.count in omega arith;
     decomposes = node_decomposes;

@@ -81,15 +81,15 @@ pub record IsServed (S : System) (P : List ℕ → Type 0) : Type 0 where
 
 -- terms that generate nothing wrong: the values of their trees decompose by their roots, a word of the shape of one means the
 -- name, and no word has the shape of two
-pub record IsRight (S : System) : Type 0 where
+pub record AreSoundTerms (S : System) : Type 0 where
   pub two : (u t : ℕ) (root cs : List ℕ) → IsTermAt S u t (Node root cs) → 2 ≤ length cs
   pub decomposes : (u t : ℕ) (root cs : List ℕ) → IsTermAt S u t (Node root cs) → (αs : List (List ℕ)) → MeanAt S cs αs → Decomposes (inflate root αs) root αs
   pub sound : (u t : ℕ) (x : Term) (w : List ℕ) → IsTermAt S u t x → HasTermShape S w x → MeansAt S u w
   pub apart : (u s t : ℕ) (x y : Term) (w : List ℕ) → IsTermAt S u s x → IsTermAt S u t y → HasTermShape S w x → HasTermShape S w y → s ≡ t
 
 -- terms that serve each word
-abbrev pub IsWhole : System → Type 0
-IsWhole S = (u : ℕ) (w : List ℕ) → MeansAt S u w → (t : ℕ) × (x : Term) × IsTermAt S u t x × HasTermShape S w x
+abbrev pub AreWholeTerms : System → Type 0
+AreWholeTerms S = (u : ℕ) (w : List ℕ) → MeansAt S u w → (t : ℕ) × (x : Term) × IsTermAt S u t x × HasTermShape S w x
 
 -- equal lists have equal parts
 list_parts : (a b : List ℕ) (xs ys : List (List ℕ)) → (a ∷ xs) ≡ (b ∷ ys) → (a ≡ b) × (xs ≡ ys)
@@ -167,7 +167,7 @@ module _ (S : System) (P : List ℕ → Type 0) (served : IsServed S P) where
   reached zero u w l mean p = absurd (omega (arith, (mean_word (slice_get S.equations u) w mean).filled))
   reached (suc d) u w l mean p = let r = served.served u w mean p in by_term d u w r.0 r.1 (reached d) l p r.2 r.3
 
-module _ (S : System) (right : IsRight S) where
+module _ (S : System) (right : AreSoundTerms S) where
   -- the value of a tree means the name, has the shape of the tree's term, and is as long as the tree
   pub record Valued (u : ℕ) (T : Tree) : Type 0 where
     pub means : MeansAt S u (value S u T)
@@ -310,5 +310,5 @@ module _ (S : System) (right : IsRight S) where
   }
 
   -- and at every size, where all words are served
-  pub right_named : IsWhole S → Named S
+  pub right_named : AreWholeTerms S → Named S
   right_named whole m = right_up_to (λ w. Unit {0}) (record { down = λ w root αs p d i h. tt; served = λ u w mean p. whole u w mean }) m (λ u w mean l. tt)

@@ -96,7 +96,7 @@ one_stays f (t ∷ ts) n h = (
 )
 
 -- what a good or a bare leaf says of the terms and the demands
-pub record IsSettled {Q : Type 0} (f : Q → Known) (ds : List (Demand Q)) (ts : List (List (Literal Q))) (ending : Ending) : Type 0 where
+pub record IsSettledLeaf {Q : Type 0} (f : Q → Known) (ds : List (Demand Q)) (ts : List (List (Literal Q))) (ending : Ending) : Type 0 where
   -- a demand is broken and all terms are refuted, or all demands are done
   pub demands : ((demands_known f ds ≡ Outside) × Each (λ t. term_known f t ≡ Outside) ts) ⊎ (demands_known f ds ≡ Inside)
   -- no two terms stay
@@ -127,7 +127,7 @@ module _ {Q : Type 0} (f : Q → Known) (ds : List (Demand Q)) (ts : List (List 
   all_refuted : inside_count f ts ≡ 0 → next_of_terms f ts ≡ None → Each (λ t. term_known f t ≡ Outside) ts
   all_refuted c e t i = is_outside (term_known f t) (none_open e t i) (none_inside f ts c t i)
 
-  broken_ends : (n : ℕ) (o : Option Q) (x : Ending) → inside_count f ts ≡ n → next_of_terms f ts ≡ o → demands_known f ds ≡ Outside → IsFair x → broken_cell n o ≡ ends x → IsSettled f ds ts x
+  broken_ends : (n : ℕ) (o : Option Q) (x : Ending) → inside_count f ts ≡ n → next_of_terms f ts ≡ o → demands_known f ds ≡ Outside → IsFair x → broken_cell n o ≡ ends x → IsSettledLeaf f ds ts x
   broken_ends zero None x c e k fair q = record {
     demands = inl (k, all_refuted c e);
     apart = one_stays f ts (none_open e) (omega arith);
@@ -137,7 +137,7 @@ module _ {Q : Type 0} (f : Q → Known) (ds : List (Demand Q)) (ts : List (List 
   broken_ends zero (Some p) x c e k fair q = absurd (let z : (let t : Treatment Q = splits p in t) ≡ ends x = q in cc)
   broken_ends (suc n) o x c e k fair q = absurd (subst IsFair (sym (ends_same {Q = Q} extra x q)) fair)
 
-  done_ends : (n : ℕ) (o : Option Q) (x : Ending) → inside_count f ts ≡ n → next_of_terms f ts ≡ o → demands_known f ds ≡ Inside → IsFair x → done_cell n o ≡ ends x → IsSettled f ds ts x
+  done_ends : (n : ℕ) (o : Option Q) (x : Ending) → inside_count f ts ≡ n → next_of_terms f ts ≡ o → demands_known f ds ≡ Inside → IsFair x → done_cell n o ≡ ends x → IsSettledLeaf f ds ts x
   done_ends zero None x c e k fair q = record {
     demands = inr k;
     apart = one_stays f ts (none_open e) (omega arith);
@@ -159,10 +159,10 @@ module _ {Q : Type 0} (f : Q → Known) (ds : List (Demand Q)) (ts : List (List 
   open_ends (Some p) x q = let z : (let t : Treatment Q = splits p in t) ≡ ends x = q in cc
 
   -- a cell that ends without a flaw of its own is settled
-  pub ends_settled : (x : Ending) → IsFair x → treated (demands_known f ds) (inside_count f ts) (next_of_terms f ts) (next_question f ds) ≡ ends x → IsSettled f ds ts x
+  pub ends_settled : (x : Ending) → IsFair x → treated (demands_known f ds) (inside_count f ts) (next_of_terms f ts) (next_question f ds) ≡ ends x → IsSettledLeaf f ds ts x
   ends_settled x fair q = by (demands_known f ds) refl q
     where
-      by : (k : Known) → demands_known f ds ≡ k → treated k (inside_count f ts) (next_of_terms f ts) (next_question f ds) ≡ ends x → IsSettled f ds ts x
+      by : (k : Known) → demands_known f ds ≡ k → treated k (inside_count f ts) (next_of_terms f ts) (next_question f ds) ≡ ends x → IsSettledLeaf f ds ts x
       by Outside e q = broken_ends (inside_count f ts) (next_of_terms f ts) x refl refl e fair q
       by Inside e q = done_ends (inside_count f ts) (next_of_terms f ts) x refl refl e fair q
       by Open e q = absurd (open_ends (next_question f ds) x q)

@@ -8,7 +8,7 @@ use Rattle.av_check.specs.declared.reading.claims.Front.{Front}
 use Rattle.av_check.specs.declared.reading.claims.Stop.{Stop}
 use Rattle.av_check.specs.declared.reading.claims.Stop.TheVariants as stop
 use Rattle.av_check.specs.Claims.{TellsWords, TellsCounts, AreFirstLines, AreSystemLines, AreClaimLines, AreAsDemanded, IsFault}
-use Rattle.av_check.specs.Reading.{FirstIs, IsVersion, IsUnion, IsSimples, IsGap, IsWithoutRequired, TellsEquation, TakesFirst, TakesSystem, TakesClaim, StopsAtBasis, StopsAtCounts, StopsInSystem, StopsAtEnd, StopsAtFault, ReadsFirst, ReadsSystem, ReadsClaim}
+use Rattle.av_check.specs.Reading.{FirstIs, IsVersion, IsUnion, IsSimplesLine, IsGapLine, IsWithoutRequired, TellsEquation, TakesFirst, TakesSystem, TakesClaim, StopsAtBasis, StopsAtCounts, StopsInSystem, StopsAtEnd, StopsAtFault, ReadsFirst, ReadsSystem, ReadsClaim}
 use Rattle.av_check.proofs.Passing.{Leads, leads_first, leads_append, leads_passed, leads_one}
 use Rattle.av_check.proofs.Taking.{passed_optional}
 use Rattle.av_check.proofs.FirstLines.{first_stop, first_once}
@@ -87,9 +87,9 @@ stops_after front old mid new lines terms f cut can none =
 pub stops_counts : (front : Front) (old mid new : List (List ℕ)) → TakesFirst front old mid → StopsAtCounts mid new → StopsAtFault old new
 stops_counts front old mid new f s =
     stops_after front old mid new (s.simples ++ s.gap) 0 f (s.cut ∙ sym (append_assoc s.simples s.gap new))
-    (counts_can_end s.simples s.gap (passed_optional IsSimples s.simples _ s.is_simples) (passed_optional IsGap s.gap _ s.is_gap))
+    (counts_can_end s.simples s.gap (passed_optional IsSimplesLine s.simples _ s.is_simples) (passed_optional IsGapLine s.gap _ s.is_gap))
     (λ S n x all e g h.
-    counts_stop s.simples s.gap x (leads_passed IsSimples s.simples _ _ (leads_append s.gap x new e) s.is_simples) (leads_passed IsGap s.gap x new e s.is_gap)
+    counts_stop s.simples s.gap x (leads_passed IsSimplesLine s.simples _ _ (leads_append s.gap x new e) s.is_simples) (leads_passed IsGapLine s.gap x new e s.is_gap)
     (λ p q k. s.none p q (leads_first (TellsCounts p q) x new e k)) (length S.equations) n (all ++ []) _ (system_ordered S n all [] g)
     (sym (append_assoc s.simples s.gap x) ∙ h ∙ sym (append-nil all)))
 

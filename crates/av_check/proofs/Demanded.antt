@@ -11,7 +11,7 @@ use Rattle.av_sys.specs.Terms.{IsTermOf}
 use Rattle.av_print.specs.Text.{joined_or_none, words_text}
 use Rattle.av_print.specs.Systems.{number_text, terms_text, name_text, equation_text, counts_text}
 use Rattle.av_check.specs.Claims.{HasText, IsOptional, TellsWords, TellsCounts, AreEquationLines, AreFirstLines, AreSystemLines, AreAsDemanded}
-use Rattle.av_check.specs.Reading.{IsVersion, IsUnion, IsSimples, IsGap, IsEquationOf}
+use Rattle.av_check.specs.Reading.{IsVersion, IsUnion, IsSimplesLine, IsGapLine, IsEquationOf}
 use Rattle.av_check.proofs.Taking.{lines_append}
 use Rattle.av_check.proofs.FirstLines.{regroup}
 
@@ -61,8 +61,8 @@ pub record CanEnd (terms : ℕ) (lines : List (List ℕ)) : Type 0 where
   pub others : List (List ℕ)
   pub are : AreSystemLines system terms (lines ++ others)
 
-pub equations_can_end : (count terms : ℕ) (simples gap : List (List ℕ)) (counts : List ℕ) (es : List Equation) (taken : List (List ℕ)) → IsOptional IsSimples simples
-    → IsOptional IsGap gap → TellsCounts count terms counts → AreEquationLines 0 es taken → length es ≤ count → ((e : Equation) → In e es → IsEquationOf count e)
+pub equations_can_end : (count terms : ℕ) (simples gap : List (List ℕ)) (counts : List ℕ) (es : List Equation) (taken : List (List ℕ)) → IsOptional IsSimplesLine simples
+    → IsOptional IsGapLine gap → TellsCounts count terms counts → AreEquationLines 0 es taken → length es ≤ count → ((e : Equation) → In e es → IsEquationOf count e)
     → CanEnd terms (simples ++ (gap ++ (counts ∷ taken)))
 equations_can_end count terms simples gap counts es taken s g k are few each = record {
   system = record { equations = all };
@@ -103,7 +103,7 @@ one_text : TellsCounts 1 0 one_counts
 unfolding one_counts counts_text digits
 one_text = record { version = 1; known = inl refl; some = omega arith; few = omega arith; text = refl }
 
-pub counts_can_end : (simples gap : List (List ℕ)) → IsOptional IsSimples simples → IsOptional IsGap gap → CanEnd 0 (simples ++ gap)
+pub counts_can_end : (simples gap : List (List ℕ)) → IsOptional IsSimplesLine simples → IsOptional IsGapLine gap → CanEnd 0 (simples ++ gap)
 counts_can_end simples gap s g =
     let r = equations_can_end 1 0 simples gap one_counts [] [] s g one_text tt (omega arith) (λ e i. absurd i) in
     record {

@@ -34,7 +34,7 @@ use Rattle.av_build.proofs.Growing.{In_get}
 use Rattle.av_build.proofs.NameEquations.{decomposed_word, root_is_word, root_splits, equation_law}
 use Rattle.av_build.proofs.DraftMeanings.{point_listed, point_sound, point_complete}
 use Rattle.av_build.proofs.DraftsApart.{apart_same}
-use Rattle.av_build.proofs.TermLaws.{MeanAt, HasTermShape, IsTermAt, IsRight, IsWhole, mean_at_blocks, means_at, term_equation}
+use Rattle.av_build.proofs.TermLaws.{MeanAt, HasTermShape, IsTermAt, AreSoundTerms, AreWholeTerms, mean_at_blocks, means_at, term_equation}
 use Rattle.av_walk.specs.Walk.{Ending, good, bare, twice, extra, Leaf}
 use Rattle.av_walk.specs.Leaves.{name_of_equation, names_at, names_of_root}
 use Rattle.av_check.specs.declared.verdict.Flaw.TheVariants.{Twice, Extra}
@@ -229,7 +229,7 @@ module _ (limit : ℕ) (basis required : List (List ℕ)) (S : System) (simples 
     ]
 
   -- so all equations have the right terms
-  pub checked_right : IsRight S
+  pub checked_right : AreSoundTerms S
   checked_right = record {
     two = branches;
     decomposes = λ u t root cs f αs m. let r = term_equation S u t (Node root cs) f in node_decomposes u r.0 r.1 root cs (get_In r.0.terms t (Node root cs) r.2) (branches u t root cs f) αs m;
@@ -243,7 +243,7 @@ module _ (limit : ℕ) (basis required : List (List ℕ)) (S : System) (simples 
       branches u t root cs f = subst Branches f (nodes_branch S ok.form u t)
 
   -- and serve each word
-  pub checked_whole : IsWhole S
+  pub checked_whole : AreWholeTerms S
   checked_whole u w m = by u w (slice_get S.equations u) refl m
     where
       by : (u : ℕ) (w : List ℕ) (o : Option Equation) → slice_get S.equations u ≡ o → MeansOf o w → (t : ℕ) × (x : Term) × IsTermAt S u t x × HasTermShape S w x

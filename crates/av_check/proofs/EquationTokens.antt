@@ -11,7 +11,8 @@ use Rattle.av_print.specs.Text.{word_text}
 use Rattle.av_print.specs.Systems.{number_text, sign_text}
 use Rattle.av_print.proofs.UniqueReading.{begins_apart, bytes_apart, numeral_once}
 use Rattle.av_print.proofs.ReadWords.{word_begins}
-use Rattle.av_check.specs.Claims.{IsPattern, ArePatterns}
+use Rattle.av_text.specs.Ranges.{IsPattern}
+use Rattle.av_check.specs.Claims.{ArePatterns}
 use Rattle.av_check.specs.Reading.{list_tokens, terms_tokens, made_tokens, named_tokens, equation_tokens, IsEquationOf, IsSignedEquation, IsAvoidingEquation}
 use Rattle.av_check.proofs.Lists.{list_lacks}
 use Rattle.av_check.proofs.ReadAs.{SameReadings}

@@ -8,7 +8,7 @@ use Rattle.av_split.specs.Split.{Demand, Rules}
 use Rattle.av_split.proofs.GenericSplit.{Lawful, Meant, Apart, Apart_append}
 use Rattle.av_walk.specs.Walk.{Literal, Ending, ends, splits, treatment, Leaf, walk}
 use Rattle.av_walk.proofs.GenericWalk.{questions_with, splits_asked, never_stuck, treatment_cases, open_in, falls, walk_leaf_only, walk_parts}
-use Rattle.av_check.proofs.CellTreatments.{IsSettled, IsFair, ends_settled}
+use Rattle.av_check.proofs.CellTreatments.{IsSettledLeaf, IsFair, ends_settled}
 
 -- a box that is split, at an open question of those that there are
 pub record IsCut {B Q : Type 0} (r : Rules B Q) (ds : List (Demand Q)) (ts : List (List (Literal Q))) (b : B) (q : Q) : Type 0 where
@@ -73,7 +73,7 @@ module _ {B Q : Type 0} (r : Rules B Q) (Fine : B → Type 0) (Apt : Q → Type 
       (λ b q xs ys f c g h l i. elim (In_append_cases xs ys l i) [ inl j ↦ g l j | inr j ↦ h l j ])
 
   -- one without a flaw of its own is settled
-  pub leaf_settled : (l : Leaf B) → IsLeaf l → IsFair l.ending → IsSettled (r.known l.cell) ds ts l.ending
+  pub leaf_settled : (l : Leaf B) → IsLeaf l → IsFair l.ending → IsSettledLeaf (r.known l.cell) ds ts l.ending
   leaf_settled l h fair = ends_settled (r.known l.cell) ds ts l.ending fair h.is
 
   module _ (Lies : B → Type 0) (H : Q → Type 0) (meant : Meant r Fine Apt Lies H) where

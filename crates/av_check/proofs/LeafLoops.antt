@@ -23,7 +23,7 @@ use Rattle.av_walk.specs.declared.leaves.CellEnd.{CellEnd}
 use Rattle.av_walk.specs.declared.leaves.CellEnd.TheVariants as cells
 use Rattle.av_walk.specs.Walk.{bare, Leaf}
 use Rattle.av_walk.specs.Leaves.{name_of_equation, names_at, names_of_root, leaves_of}
-use Rattle.av_walk.specs.Ends.{IsEnd, Gives}
+use Rattle.av_walk.specs.Ends.{IsEndOf, GivesEnd}
 use Rattle.av_check.specs.declared.fault.Fault.TheVariants as faults
 use Rattle.av_check.specs.declared.verdict.Flaw.{Flaw}
 use Rattle.av_check.specs.Verdicts.{first_sign, ending_flaw, leaf_flaw, at_most, first_of, cell_fault, first_leaf}
@@ -35,11 +35,11 @@ use Rattle.av_check.proofs.BareCells.{bare_growable}
 use Rattle.av_check.proofs.ListedTerms.{In_names}
 
 -- an end that is given is that of the first leaf of those left
-pub given_leaf : (r : Result CellEnd Memory) (end : CellEnd) (before after : List (Leaf Box)) → r ≡ Ok end → Gives (Some r) before after → (l : Leaf Box) × IsEnd end l × (before ≡ l ∷ after)
-given_leaf r end before after e = subst (λ r. Gives (Some r) before after) e
+pub given_leaf : (r : Result CellEnd Memory) (end : CellEnd) (before after : List (Leaf Box)) → r ≡ Ok end → GivesEnd (Some r) before after → (l : Leaf Box) × IsEndOf end l × (before ≡ l ∷ after)
+given_leaf r end before after e = subst (λ r. GivesEnd (Some r) before after) e
 
 -- the flaw of a leaf by its end
-pub end_same : (simples : List (List ℕ)) (root : List ℕ) (end : CellEnd) (l : Leaf Box) → IsEnd end l → end_flaw simples root end ≡ leaf_flaw MAX_SIZE simples root l
+pub end_same : (simples : List (List ℕ)) (root : List ℕ) (end : CellEnd) (l : Leaf Box) → IsEndOf end l → end_flaw simples root end ≡ leaf_flaw MAX_SIZE simples root l
 end_same simples root cells.Good l e = sym (ap (λ x. ending_flaw MAX_SIZE simples root x l.cell) e)
 end_same simples root (cells.Bare b) l e = sym (ap (λ x. ending_flaw MAX_SIZE simples root x l.cell) e.0 ∙ ap (λ c. ending_flaw MAX_SIZE simples root bare c) e.1)
 end_same simples root cells.Twice l e = sym (ap (λ x. ending_flaw MAX_SIZE simples root x l.cell) e)
@@ -121,7 +121,7 @@ module _ (S : System) (e : Equation) (taken : IsTaken S) (named : All (λ (e : E
       by (Some d) q = short_name d (get_In S.equations (In_map (λ c. name_of_equation (slice_get S.equations c)) cs m i).0 d q)
 
   -- the canonical systems that an end asks for can be grown
-  pub growable_end : (basis : List (List ℕ)) (root : List ℕ) (end : CellEnd) (l : Leaf Box) → Covers basis e.name.avoid → IsSystemRoot root → In l (leaves_of S root e) → IsEnd end l → IsGrowableEnd basis root end
+  pub growable_end : (basis : List (List ℕ)) (root : List ℕ) (end : CellEnd) (l : Leaf Box) → Covers basis e.name.avoid → IsSystemRoot root → In l (leaves_of S root e) → IsEndOf end l → IsGrowableEnd basis root end
   growable_end basis root cells.Good l covers r i k = tt
   growable_end basis root (cells.Bare b) l covers r i k =
       subst (λ c. (n : Name) → In n (child_names (first_sign root) c) → IsGrowable basis n) k.1

@@ -9,7 +9,7 @@ use Rattle.av_print.proofs.UniqueReading.{IsWritable, number_read}
 use Rattle.av_print.proofs.ReadWords.{AreShortWords, FollowsWords, words_read}
 use Rattle.av_print.proofs.ReadSystems.{IsEquation, some_term, equation_read}
 use Rattle.av_check.specs.Claims.{HasText, ArePatterns, TellsWords, TellsCounts}
-use Rattle.av_check.specs.Reading.{IsVersion, IsUnion, IsSimples, IsGap, IsEquationOf}
+use Rattle.av_check.specs.Reading.{IsVersion, IsUnion, IsSimplesLine, IsGapLine, IsEquationOf}
 
 -- the second byte of a line
 abbrev pub letter : List ℕ → ℕ
@@ -33,10 +33,10 @@ basis_letter ws line t = text_letter line 98 97 115 _ t.text
 pub require_letter : (ws : List (List ℕ)) (line : List ℕ) → TellsWords (codes "require") ws line → letter line ≡ 101
 require_letter ws line t = text_letter line 114 101 113 _ t.text
 
-pub simples_letter : (line : List ℕ) → IsSimples line → letter line ≡ 105
+pub simples_letter : (line : List ℕ) → IsSimplesLine line → letter line ≡ 105
 simples_letter line b = ap letter b.1
 
-pub gap_letter : (line : List ℕ) → IsGap line → letter line ≡ 97
+pub gap_letter : (line : List ℕ) → IsGapLine line → letter line ≡ 97
 gap_letter line b = ap letter b.1
 
 pub counts_letter : (x y : ℕ) (line : List ℕ) → TellsCounts x y line → letter line ≡ 121

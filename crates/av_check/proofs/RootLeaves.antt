@@ -19,7 +19,7 @@ use Rattle.av_walk.specs.Walk.{Literal, term_known, bare, Leaf}
 use Rattle.av_walk.specs.Leaves.{literals, leaves}
 use Rattle.av_walk.proofs.GenericWalk.{questions_with}
 use Rattle.av_check.specs.Laws.{IsWordName, PartLaw}
-use Rattle.av_check.proofs.CellTreatments.{questions_in, Stays, IsSettled, IsFair}
+use Rattle.av_check.proofs.CellTreatments.{questions_in, Stays, IsSettledLeaf, IsFair}
 use Rattle.av_check.proofs.GenericWalk.{IsLeaf, walk_leaf, leaf_settled, walk_covers, leaves_apart}
 use Rattle.av_check.proofs.NameLiterals.{Covers, covers_hold, hold_covers, literals_apt, inside_holds, holds_stays}
 
@@ -66,7 +66,7 @@ module _ (π : List ℕ) (n : Name) (nss : List (List Name)) (w : IsWord π) (ow
   leaf_fine l i = (each_leaf l i).fine
 
   -- one without a flaw of its own is settled
-  pub settled : (l : Leaf Box) → In l (leaves π n nss) → IsFair l.ending → IsSettled (word_rules.known l.cell) ds ts l.ending
+  pub settled : (l : Leaf Box) → In l (leaves π n nss) → IsFair l.ending → IsSettledLeaf (word_rules.known l.cell) ds ts l.ending
   settled l i fair = leaf_settled word_rules (Fine (length π)) (Apt (length π)) (word_law (length π)) ds ts all_apt l (each_leaf l i) fair
 
   module _ (αs : List (List ℕ)) (b : AreBlocks π αs) where
@@ -93,7 +93,7 @@ module _ (π : List ℕ) (n : Name) (nss : List (List Name)) (w : IsWord π) (ow
       fine : Fine (length π) l.cell
       fine = leaf_fine l leaf.listed
 
-      is_settled : IsSettled (word_rules.known l.cell) ds ts l.ending
+      is_settled : IsSettledLeaf (word_rules.known l.cell) ds ts l.ending
       is_settled = settled l leaf.listed fair
 
       -- what is known of the demands in the cell is true of the inflation

@@ -9,7 +9,7 @@ use Rattle.av_print.specs.Text.{word_text, root_text}
 use Rattle.av_print.proofs.UniqueReading.{begins_apart}
 use Rattle.av_print.proofs.ReadWords.{IsShortWord, word_begins, plain_root, bracketed_root, root_read}
 use Rattle.av_print.proofs.ReadSystems.{system_root}
-use Rattle.av_check.specs.Claims.{IsPattern}
+use Rattle.av_text.specs.Ranges.{IsPattern}
 use Rattle.av_check.proofs.ReadAs.{SameReadings}
 
 -- a pattern, and a root, are words that can be written

@@ -21,7 +21,7 @@ use Rattle.av_print.proofs.ReadWords.{short_form, long_form}
 use Rattle.av_print.proofs.Tokens.{pass_joined}
 use Rattle.av_print.proofs.NumberTokens.{numeral_digits, are_digits}
 use Rattle.av_print.proofs.WordTokens.{entries_said}
-use Rattle.av_check.specs.Claims.{IsPattern}
+use Rattle.av_text.specs.Ranges.{IsPattern}
 use Rattle.av_check.proofs.Joins.{join_items}
 use Rattle.av_check.proofs.Numerals.{numeral_back}
 

@@ -6,7 +6,7 @@ use Rattle.av_sys.specs.declared.terms.System.{System}
 use Rattle.av_sys.specs.Terms.{IsTermOf}
 use Rattle.av_print.specs.Systems.{equation_text, terms_count}
 use Rattle.av_check.specs.Claims.{IsOptional, HasText, TellsWords, TellsCounts, AreEquationLines, AreSystemLines}
-use Rattle.av_check.specs.Reading.{FirstIs, IsPassed, IsSimples, IsGap, IsEquationOf, IsWithoutRequired, TellsEquation, TakesCounts, TakesEquations, TakesSystem}
+use Rattle.av_check.specs.Reading.{FirstIs, IsPassed, IsSimplesLine, IsGapLine, IsEquationOf, IsWithoutRequired, TellsEquation, TakesCounts, TakesEquations, TakesSystem}
 use Rattle.av_check.proofs.LineKinds.{require_letter, simples_letter, gap_letter, counts_letter, counts_once, equation_once}
 use Rattle.av_check.proofs.Passing.{optional_passed, passed_once}
 use Rattle.av_check.proofs.FirstLines.{regroup}
@@ -17,24 +17,24 @@ pub record AreOrdered (count terms : ℕ) (all left : List (List ℕ)) : Type 0 
   pub gap : List (List ℕ)
   pub counts : List ℕ
   pub in_order : all ≡ simples ++ (gap ++ (counts ∷ left))
-  pub is_simples : IsPassed IsSimples simples (gap ++ (counts ∷ left))
-  pub is_gap : IsPassed IsGap gap (counts ∷ left)
+  pub is_simples : IsPassed IsSimplesLine simples (gap ++ (counts ∷ left))
+  pub is_gap : IsPassed IsGapLine gap (counts ∷ left)
   pub are_counts : TellsCounts count terms counts
 
 -- lines before that of the counts are passed
-pub ordered : (count terms : ℕ) (all left simples gap : List (List ℕ)) (counts : List ℕ) → all ≡ simples ++ (gap ++ (counts ∷ left)) → IsOptional IsSimples simples
-    → IsOptional IsGap gap → TellsCounts count terms counts → AreOrdered count terms all left
+pub ordered : (count terms : ℕ) (all left simples gap : List (List ℕ)) (counts : List ℕ) → all ≡ simples ++ (gap ++ (counts ∷ left)) → IsOptional IsSimplesLine simples
+    → IsOptional IsGapLine gap → TellsCounts count terms counts → AreOrdered count terms all left
 ordered count terms all left simples gap counts e s g k = record {
   simples = simples;
   gap = gap;
   counts = counts;
   in_order = e;
-  is_simples = optional_passed IsSimples simples _ s (no_simples gap g);
-  is_gap = optional_passed IsGap gap _ g (λ h. let a = gap_letter counts h in let b = counts_letter count terms counts k in omega arith);
+  is_simples = optional_passed IsSimplesLine simples _ s (no_simples gap g);
+  is_gap = optional_passed IsGapLine gap _ g (λ h. let a = gap_letter counts h in let b = counts_letter count terms counts k in omega arith);
   are_counts = k;
 }
   where
-    no_simples : (gap : List (List ℕ)) → IsOptional IsGap gap → FirstIs IsSimples (gap ++ (counts ∷ left)) → ⊥
+    no_simples : (gap : List (List ℕ)) → IsOptional IsGapLine gap → FirstIs IsSimplesLine (gap ++ (counts ∷ left)) → ⊥
     no_simples [] g h = let a = simples_letter counts h in let b = counts_letter count terms counts k in omega arith
     no_simples (l ∷ []) g h = let a = simples_letter l h in let b = gap_letter l g in omega arith
     no_simples (l ∷ m ∷ ls) g h = g
@@ -48,8 +48,8 @@ system_ordered S terms lines left f =
 -- the counts that are read, and what is left
 pub ordered_once : (x y m n : ℕ) (all left more : List (List ℕ)) → AreOrdered x y all left → AreOrdered m n all more → (x ≡ m) × (y ≡ n) × (left ≡ more)
 ordered_once x y m n all left more o p =
-    let s = passed_once IsSimples o.simples p.simples _ _ o.is_simples p.is_simples (sym o.in_order ∙ p.in_order) in
-    let g = passed_once IsGap o.gap p.gap _ _ o.is_gap p.is_gap s.1 in
+    let s = passed_once IsSimplesLine o.simples p.simples _ _ o.is_simples p.is_simples (sym o.in_order ∙ p.in_order) in
+    let g = passed_once IsGapLine o.gap p.gap _ _ o.is_gap p.is_gap s.1 in
     let h : p.counts ≡ o.counts = head_same o.counts p.counts _ _ g.1 in
     let k = counts_once x y m n o.counts o.are_counts (subst (TellsCounts m n) h p.are_counts) in
     (k.0, k.1, tail_same o.counts p.counts _ _ g.1)
@@ -61,11 +61,11 @@ ordered_once x y m n all left more o p =
     tail_same x y s t e = cc
 
 -- lines of which the first, after what is passed, isn't that of counts are those of no system
-pub counts_stop : (simples gap x : List (List ℕ)) → IsPassed IsSimples simples (gap ++ x) → IsPassed IsGap gap x
+pub counts_stop : (simples gap x : List (List ℕ)) → IsPassed IsSimplesLine simples (gap ++ x) → IsPassed IsGapLine gap x
     → ((m n : ℕ) → FirstIs (TellsCounts m n) x → ⊥) → (m n : ℕ) (all left : List (List ℕ)) → AreOrdered m n all left → simples ++ (gap ++ x) ≡ all → ⊥
 counts_stop simples gap x s g none m n all left o e =
-    let a = passed_once IsSimples simples o.simples (gap ++ x) _ s o.is_simples (e ∙ o.in_order) in
-    let b = passed_once IsGap gap o.gap x _ g o.is_gap a.1 in
+    let a = passed_once IsSimplesLine simples o.simples (gap ++ x) _ s o.is_simples (e ∙ o.in_order) in
+    let b = passed_once IsGapLine gap o.gap x _ g o.is_gap a.1 in
     none m n (subst (FirstIs (TellsCounts m n)) (sym b.1) o.are_counts)
 
 -- the equations of a system are of so many
@@ -114,8 +114,8 @@ system_once S T m n ls ms x y f g e =
     (λ i. record { equations = r.0 i }, o.1, r.1)
 
 -- lines that stop within the equations are those of no system
-pub equation_stop : (count terms : ℕ) (simples gap : List (List ℕ)) (counts : List ℕ) (es : List Equation) (taken x : List (List ℕ)) → IsOptional IsSimples simples
-    → IsOptional IsGap gap → TellsCounts count terms counts → AreEquationLines 0 es taken → length es < count
+pub equation_stop : (count terms : ℕ) (simples gap : List (List ℕ)) (counts : List ℕ) (es : List Equation) (taken x : List (List ℕ)) → IsOptional IsSimplesLine simples
+    → IsOptional IsGapLine gap → TellsCounts count terms counts → AreEquationLines 0 es taken → length es < count
     → ((e : Equation) → FirstIs (TellsEquation count (length es) e) x → ⊥)
     → (T : System) (n : ℕ) (ms y : List (List ℕ)) → AreSystemLines T n ms → simples ++ (gap ++ (counts ∷ (taken ++ x))) ≡ ms ++ y → ⊥
 equation_stop count terms simples gap counts es taken x s g k are few none T n ms y f e =
@@ -136,7 +136,7 @@ without_required S terms lines f (Some ws) = tt
 without_required S terms lines f None =
     λ ws h. by ws f.simples f.gap f.is_simples f.is_gap (subst (FirstIs (TellsWords (codes "require") ws)) f.in_order h)
   where
-    by : (ws : List (List ℕ)) (simples gap : List (List ℕ)) → IsOptional IsSimples simples → IsOptional IsGap gap
+    by : (ws : List (List ℕ)) (simples gap : List (List ℕ)) → IsOptional IsSimplesLine simples → IsOptional IsGapLine gap
         → FirstIs (TellsWords (codes "require") ws) (simples ++ (gap ++ (f.counts ∷ f.equations))) → ⊥
     by ws (l ∷ m ∷ ls) gap s g h = s
     by ws (l ∷ []) gap s g h = let a = require_letter ws l h in let b = simples_letter l s in omega arith

@@ -17,7 +17,7 @@ use Rattle.av_print.proofs.ReadWords.{short_form, long_form, plain_root, bracket
 use Rattle.av_print.proofs.ReadSystems.{system_root}
 use Rattle.av_print.proofs.Tokens.{pass_wider, pass_joined, pass_both}
 use Rattle.av_print.proofs.NumberTokens.{numeral_digits}
-use Rattle.av_check.specs.Reading.{AreNumbers, AreChildren, IsNode, root_part, children_part, AreTermsOf, AreSomeTerms, barred_tokens, terms_tokens}
+use Rattle.av_check.specs.Reading.{AreNumbers, AreChildren, IsNodeTerm, root_part, children_part, AreTermsOf, AreSomeTerms, barred_tokens, terms_tokens}
 use Rattle.av_check.proofs.Joins.{Pass, join_items, cut_joined, pieces_joined, joined_pieces}
 use Rattle.av_check.proofs.ReadAs.{SameReadings}
 use Rattle.av_check.proofs.RootTexts.{root_pattern, root_once}
@@ -102,18 +102,18 @@ node_some count r cs is = record { some = omega (arith, is.count, (system_root r
 
 -- texts of which the first is that of no root, or the second of no children, are those of no node
 pub no_root : (count : ℕ) (root children : List ℕ) → ((w : List ℕ) → IsSystemRoot w → root ≡ root_text w → ⊥)
-    → (t : Term) → IsNode count t → root ∷ children ∷ [] ≡ root_part t ∷ children_part t ∷ [] → ⊥
+    → (t : Term) → IsNodeTerm count t → root ∷ children ∷ [] ≡ root_part t ∷ children_part t ∷ [] → ⊥
 no_root count root children none Point is e = is
 no_root count root children none (Node r cs) is e = none r is.rooted (first_same root children _ _ e).0
 
 pub no_children : (count : ℕ) (root children : List ℕ) → ((cs : List ℕ) → AreChildren count cs → children ≡ children_text cs → ⊥)
-    → (t : Term) → IsNode count t → root ∷ children ∷ [] ≡ root_part t ∷ children_part t ∷ [] → ⊥
+    → (t : Term) → IsNodeTerm count t → root ∷ children ∷ [] ≡ root_part t ∷ children_part t ∷ [] → ⊥
 no_children count root children none Point is e = is
 no_children count root children none (Node r cs) is e = none cs (node_some count r cs is) (first_same root children _ _ e).1
 
 -- nor are those of a root and of more or fewer children than it is long
 pub not_as_many : (count : ℕ) (root children r cs : List ℕ) → IsSystemRoot r → root ≡ root_text r → AreChildren count cs → children ≡ children_text cs
-    → (length cs ≡ length r → ⊥) → (t : Term) → IsNode count t → root ∷ children ∷ [] ≡ root_part t ∷ children_part t ∷ [] → ⊥
+    → (length cs ≡ length r → ⊥) → (t : Term) → IsNodeTerm count t → root ∷ children ∷ [] ≡ root_part t ∷ children_part t ∷ [] → ⊥
 not_as_many count root children r cs rooted is are was unlike Point node e = node
 not_as_many count root children r cs rooted is are was unlike (Node q ds) node e =
     let f = first_same root children _ _ e in
@@ -122,7 +122,7 @@ not_as_many count root children r cs rooted is are was unlike (Node q ds) node e
 
 -- a node, before the closing bracket and with it
 pub closed_same : (count : ℕ) (root rest children : List ℕ) → rest ≡ children ++ codes "]"
-    → SameReadings (IsNode count) (IsNode count) (λ t. root_part t ∷ children_part t ∷ []) (root ∷ children ∷ [])
+    → SameReadings (IsNodeTerm count) (IsNodeTerm count) (λ t. root_part t ∷ children_part t ∷ []) (root ∷ children ∷ [])
     (λ t. root_part t ∷ (children_part t ++ codes "]") ∷ []) (root ∷ rest ∷ [])
 closed_same count root rest children is = record {
   to = λ t node e.
@@ -153,15 +153,15 @@ node_pass r cs t (inr (inr i)) = absurd i
 
 -- a token that isn't the point is a term's text where its pieces are those of a node
 pub term_same : (count : ℕ) (token : List ℕ) (ps : List (List ℕ)) → ps ≡ slice_split (λ b. b == 91) token → (token ≡ codes "1" → ⊥)
-    → SameReadings (IsNode count) (IsTermOf count) (λ t. root_part t ∷ (children_part t ++ codes "]") ∷ []) ps term_text token
+    → SameReadings (IsNodeTerm count) (IsTermOf count) (λ t. root_part t ∷ (children_part t ++ codes "]") ∷ []) ps term_text token
 unfolding term_text
 term_same count token ps is none = record { to = λ t. to t; from = λ t. from t }
   where
-    to : (t : Term) → IsNode count t → ps ≡ root_part t ∷ (children_part t ++ codes "]") ∷ [] → IsTermOf count t × (token ≡ term_text t)
+    to : (t : Term) → IsNodeTerm count t → ps ≡ root_part t ∷ (children_part t ++ codes "]") ∷ [] → IsTermOf count t × (token ≡ term_text t)
     to Point node e = absurd node
     to (Node r cs) node e = (node, pieces_joined 91 token _ (sym is ∙ e))
 
-    from : (t : Term) → IsTermOf count t → token ≡ term_text t → IsNode count t × (ps ≡ root_part t ∷ (children_part t ++ codes "]") ∷ [])
+    from : (t : Term) → IsTermOf count t → token ≡ term_text t → IsNodeTerm count t × (ps ≡ root_part t ∷ (children_part t ++ codes "]") ∷ [])
     from Point term e = absurd (none e)
     from (Node r cs) term e = (term, is ∙ joined_pieces no_opening 91 no_opening_apart token _ (omega arith) (node_pass r cs) e)
 

@@ -32,11 +32,7 @@ IsOptional P [] = Unit {0}
 IsOptional P (line ∷ []) = P line
 IsOptional P (line ∷ other ∷ lines) = ⊥
 
--- a word that a claim may name
-pub record IsPattern (w : List ℕ) : Type 0 where
-  pub word : IsWord w
-  pub short : length w ≤ MAX_PATTERN_LENGTH
-
+-- words that a claim may name
 abbrev pub ArePatterns : List (List ℕ) → Type 0
 ArePatterns ws = (w : List ℕ) → In w ws → IsPattern w
 

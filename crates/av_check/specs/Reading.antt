@@ -42,9 +42,9 @@ pub record AreChildren (count : ℕ) (children : List ℕ) : Type 0 where
   pub numbers : AreNumbers count children
 
 -- a node of such a system
-abbrev pub IsNode : ℕ → Term → Type 0
-IsNode count Point = ⊥
-IsNode count (Node root children) = IsNodeOf count root children
+abbrev pub IsNodeTerm : ℕ → Term → Type 0
+IsNodeTerm count Point = ⊥
+IsNodeTerm count (Node root children) = IsNodeOf count root children
 
 -- its text before and after the opening bracket, but for the closing one
 abbrev pub root_part : Term → List ℕ
@@ -203,19 +203,19 @@ ReadsFirst old new (Err stop.Memory) = Unit {0}
 ReadsFirst old new (Err stop.Here) = StopsAtBasis old new
 
 -- what may stand before a system, and the line of its counts
-abbrev pub IsSimples : List ℕ → Type 0
-IsSimples line = BeginsWith (codes "simples ") line
+abbrev pub IsSimplesLine : List ℕ → Type 0
+IsSimplesLine line = BeginsWith (codes "simples ") line
 
-abbrev pub IsGap : List ℕ → Type 0
-IsGap line = BeginsWith (codes "gap ") line
+abbrev pub IsGapLine : List ℕ → Type 0
+IsGapLine line = BeginsWith (codes "gap ") line
 
 -- lines before that of the counts were passed, which doesn't come next
 pub record StopsAtCounts (old new : List (List ℕ)) : Type 0 where
   pub simples : List (List ℕ)
   pub gap : List (List ℕ)
   pub cut : old ≡ simples ++ (gap ++ new)
-  pub is_simples : IsPassed IsSimples simples (gap ++ new)
-  pub is_gap : IsPassed IsGap gap new
+  pub is_simples : IsPassed IsSimplesLine simples (gap ++ new)
+  pub is_gap : IsPassed IsGapLine gap new
   pub none : (equations terms : ℕ) → FirstIs (TellsCounts equations terms) new → ⊥
 
 -- the lines before the equations were taken
@@ -224,8 +224,8 @@ pub record TakesCounts (count terms : ℕ) (old new : List (List ℕ)) : Type 0 
   pub gap : List (List ℕ)
   pub counts : List ℕ
   pub cut : old ≡ simples ++ (gap ++ (counts ∷ new))
-  pub is_simples : IsOptional IsSimples simples
-  pub is_gap : IsOptional IsGap gap
+  pub is_simples : IsOptional IsSimplesLine simples
+  pub is_gap : IsOptional IsGapLine gap
   pub are_counts : TellsCounts count terms counts
 
 abbrev pub ReadsCounts : List (List ℕ) → List (List ℕ) → Result Counts Stop → Type 0

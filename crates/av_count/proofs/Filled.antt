@@ -18,7 +18,7 @@ use Rattle.av_count.specs.declared.layout.Layout.{Layout}
 use Rattle.av_count.specs.Counts.{capped}
 use Rattle.av_count.specs.Choices.{ways, ahead, sum_from}
 use Rattle.av_count.specs.Members.{term_ways}
-use Rattle.av_count.specs.Links.{IsRest, IsNode, AreNumbers}
+use Rattle.av_count.specs.Links.{IsRest, IsLinkOf, AreNumbers}
 use Rattle.av_count.specs.Tables.{RowHolds, CountsHold, LinkHolds, RestsHold, IsFilled, cell}
 use Rattle.av_count.proofs.Members.{ways_one, ways_cons, ways_two, ways_none, count_none, sum_more}
 
@@ -173,7 +173,7 @@ pair_ways f c cs (suc n) h = let e : suc n - 1 ≡ n = omega arith in rw e (ways
 pub node_is : (g : Layout) (s : ℕ) (counts rests : List (List Count)) (l : Link) (row others : List Count) (x : Count) → IsFilled g s counts rests
     → row ≡ get_or counts l.first [] → others ≡ row_of counts rests l.rest
     → ((f h : ℕ → ℕ) → ((m : ℕ) → m < s → cell row m ≡ capped (f m)) → ((m : ℕ) → m < s → cell others m ≡ capped (h m)) → x ≡ capped (ahead f h s 1 (s - 1)))
-    → (cs : List ℕ) → AreNumbers (length g.of.value.equations) cs → IsNode g.links cs l → x ≡ capped (ways (count_at g.of.value) cs s)
+    → (cs : List ℕ) → AreNumbers (length g.of.value.equations) cs → IsLinkOf g.links cs l → x ≡ capped (ways (count_at g.of.value) cs s)
 node_is g s counts rests l row others x h e k pairs [] n d = absurd d
 node_is g s counts rests l row others x h e k pairs (c ∷ cs) n d =
     let first = subst (RowHolds (count_at g.of.value c) (g.largest + 1) s) (sym (e ∙ ap (λ u. get_or counts u []) d.0)) (h.counted.rows c (n c (inl refl))) in
@@ -185,27 +185,27 @@ node_is g s counts rests l row others x h e k pairs (c ∷ cs) n d =
     some (y ∷ ys) r d = omega arith
 
 -- a rest in a table of so many rows for equations and for links
-abbrev pub IsWithin : ℕ → ℕ → Rest → Type 0
-IsWithin equations links (Last e) = e < equations
-IsWithin equations links (More i) = i < links
+abbrev pub IsRestWithin : ℕ → ℕ → Rest → Type 0
+IsRestWithin equations links (Last e) = e < equations
+IsRestWithin equations links (More i) = i < links
 
 -- the rows of a node's children
 pub record NodeRows (g : Layout) (counts rests : List (List Count)) (l : Link) : Type 0 where
   pub first : l.first < length counts
   pub first_long : length (get_or counts l.first []) ≡ g.largest + 1
-  pub within : IsWithin (length counts) (length rests) l.rest
+  pub within : IsRestWithin (length counts) (length rests) l.rest
   pub rest_long : length (row_of counts rests l.rest) ≡ g.largest + 1
 
 -- a rest for some children has a row
 pub rest_within : (g : Layout) (s : ℕ) (counts rests : List (List Count)) → IsFilled g s counts rests → (cs : List ℕ) → AreNumbers (length g.of.value.equations) cs
-    → (r : Rest) → IsRest g.links cs r → IsWithin (length counts) (length rests) r
+    → (r : Rest) → IsRest g.links cs r → IsRestWithin (length counts) (length rests) r
 rest_within g s counts rests h [] n r d = absurd d
 rest_within g s counts rests h (c ∷ cs) n (Last e) d = let k = subst (λ x. x < length g.of.value.equations) (sym d.0) (n c (inl refl)) in omega (arith, k, h.counted.long)
 rest_within g s counts rests h (c ∷ cs) n (More i) d = omega (arith, slice_get_within g.links i d.0 d.1, h.rows.long)
 
 -- so do all children of a node
 pub node_rows : (g : Layout) (s : ℕ) (counts rests : List (List Count)) → IsFilled g s counts rests → (l : Link) (cs : List ℕ) → AreNumbers (length g.of.value.equations) cs
-    → IsNode g.links cs l → NodeRows g counts rests l
+    → IsLinkOf g.links cs l → NodeRows g counts rests l
 node_rows g s counts rests h l [] n d = absurd d
 node_rows g s counts rests h l (c ∷ cs) n d =
     let k = subst (λ x. x < length g.of.value.equations) (sym d.0) (n c (inl refl)) in
@@ -224,11 +224,11 @@ pub more_row : (counts rests : List (List Count)) (r : Rest) (i : ℕ) (row : Li
 more_row counts rests r i row q h = h ∙ sym (ap (row_of counts rests) q)
 
 -- the place of a row
-pub last_place : (m n : ℕ) (r : Rest) (e : ℕ) → r ≡ Last e → IsWithin m n r → e < m
-last_place m n r e q h = subst (IsWithin m n) q h
+pub last_place : (m n : ℕ) (r : Rest) (e : ℕ) → r ≡ Last e → IsRestWithin m n r → e < m
+last_place m n r e q h = subst (IsRestWithin m n) q h
 
-pub more_place : (m n : ℕ) (r : Rest) (i : ℕ) → r ≡ More i → IsWithin m n r → i < n
-more_place m n r i q h = subst (IsWithin m n) q h
+pub more_place : (m n : ℕ) (r : Rest) (i : ℕ) → r ≡ More i → IsRestWithin m n r → i < n
+more_place m n r i q h = subst (IsRestWithin m n) q h
 
 -- rows of nothing but 0 hold below size 1
 pub filled_zero : (g : Layout) (counts rests : List (List Count)) → counts ≡ replicate (length g.of.value.equations) (replicate (g.largest + 1) (Known 0))
@@ -240,5 +240,5 @@ filled_zero g counts rests a b = record {
 
 -- the row for the children of a link from one on
 pub record TailRow (g : Layout) (s : ℕ) (counts rests : List (List Count)) (child : ℕ) (cs : List ℕ) (r : Rest) : Type 0 where
-  pub within : IsWithin (length counts) (length rests) r
+  pub within : IsRestWithin (length counts) (length rests) r
   pub holds : RowHolds (ways (count_at g.of.value) (drop (child - 1) cs)) (g.largest + 1) s (row_of counts rests r)

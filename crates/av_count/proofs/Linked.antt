@@ -10,7 +10,7 @@ use Rattle.av_sys.specs.TreeLists.{count_at}
 use Rattle.av_count.specs.declared.links.Rest.{Rest}
 use Rattle.av_count.specs.declared.links.Rest.TheVariants.{Last, More}
 use Rattle.av_count.specs.declared.links.Link.{Link}
-use Rattle.av_count.specs.Links.{IsRest, IsNode, AreNumbers, AreLinks, Keeps, Joins, AddsRest, AddsNode, IsHead, AreHeads, AreNodes, AddsHead, AddsHeads}
+use Rattle.av_count.specs.Links.{IsRest, IsLinkOf, AreNumbers, AreLinks, Keeps, Joins, AddsRest, AddsNode, IsHead, AreHeads, AreNodes, AddsHead, AddsHeads}
 use Rattle.av_count.proofs.NodeForms.{node_form}
 use Rattle.av_count.specs.Choices.{ways}
 use Rattle.av_count.specs.Members.{subtree_lists, tail_at}
@@ -26,7 +26,7 @@ rest_kept old new k [] r h = absurd h
 rest_kept old new k (c ∷ cs) (Last e) h = h
 rest_kept old new k (c ∷ cs) (More i) h = (h.0, k i h.0 h.1, h.2, rest_kept old new k cs h.0.rest h.3)
 
-node_kept : (old new : List Link) → Keeps old new → (cs : List ℕ) (l : Link) → IsNode old cs l → IsNode new cs l
+node_kept : (old new : List Link) → Keeps old new → (cs : List ℕ) (l : Link) → IsLinkOf old cs l → IsLinkOf new cs l
 node_kept old new k [] l h = absurd h
 node_kept old new k (c ∷ cs) l h = (h.0, rest_kept old new k cs l.rest h.1)
 
@@ -42,12 +42,12 @@ heads_kept : (S : System) (old new : List Link) (u s : ℕ) (heads : List (Optio
 heads_kept S old new u s heads k h = record { long = h.long; each = λ t lt. head_kept old new k (term_at S u t) _ (h.each t lt) }
 
 -- each link still stands for some children, once one joined that does
-links_joined : (equations : ℕ) (old new : List Link) (link : Link) (i : ℕ) → Joins old new link i → ((cs : List ℕ) × AreNumbers equations cs × IsNode new cs link)
+links_joined : (equations : ℕ) (old new : List Link) (link : Link) (i : ℕ) → Joins old new link i → ((cs : List ℕ) × AreNumbers equations cs × IsLinkOf new cs link)
     → AreLinks equations old → AreLinks equations new
 links_joined equations old new link i j n h k l e = by (j.only k l e)
   where
-    by : ((l ≡ link) ⊎ (slice_get old k ≡ Some l)) → (cs : List ℕ) × AreNumbers equations cs × IsNode new cs l
-    by (inl q) = subst (λ x. (cs : List ℕ) × AreNumbers equations cs × IsNode new cs x) (sym q) n
+    by : ((l ≡ link) ⊎ (slice_get old k ≡ Some l)) → (cs : List ℕ) × AreNumbers equations cs × IsLinkOf new cs l
+    by (inl q) = subst (λ x. (cs : List ℕ) × AreNumbers equations cs × IsLinkOf new cs x) (sym q) n
     by (inr o) = let p = h k l o in (p.0, p.1, node_kept old new j.kept p.0 l p.2)
 
 -- the children from one on are that one and those after it
@@ -116,7 +116,7 @@ more_known links [] i h = absurd h
 more_known links (c ∷ cs) i h = slice_get_within links i h.0 h.1
 
 -- the link with the number of a rest stands for the same children
-pub at_link : (links : List Link) (cs : List ℕ) (i : ℕ) (l : Link) → slice_get links i ≡ Some l → IsRest links cs (More i) → IsNode links cs l
+pub at_link : (links : List Link) (cs : List ℕ) (i : ℕ) (l : Link) → slice_get links i ≡ Some l → IsRest links cs (More i) → IsLinkOf links cs l
 at_link links [] i l e h = absurd h
 at_link links (c ∷ cs) i l e h =
     let q : h.0 ≡ l = some_same (sym h.1 ∙ e) in subst (λ x. (x.first ≡ c) × IsRest links cs x.rest) q (h.2, h.3)
@@ -132,7 +132,7 @@ pub record HasRest (equations : ℕ) (links : List Link) (cs : List ℕ) (l : Li
   pub long : length cs ≡ suc (length others)
   pub same : (k : ℕ) → 1 ≤ k → drop k cs ≡ drop (k - 1) others
 
-pub has_rest : (equations : ℕ) (links : List Link) (cs : List ℕ) (l : Link) → AreNumbers equations cs → IsNode links cs l → HasRest equations links cs l
+pub has_rest : (equations : ℕ) (links : List Link) (cs : List ℕ) (l : Link) → AreNumbers equations cs → IsLinkOf links cs l → HasRest equations links cs l
 has_rest equations links [] l n h = absurd h
 has_rest equations links (c ∷ cs) l n h = record { others = cs; numbers = λ y i. n y (inr i); stands = h.1; long = refl; same = less }
   where
@@ -151,7 +151,7 @@ pub record HasNode (links : List Link) (o : Option Term) (l : Link) : Type 0 whe
   pub root : List ℕ
   pub children : List ℕ
   pub is : o ≡ Some (Node root children)
-  pub node : IsNode links children l
+  pub node : IsLinkOf links children l
 
 pub head_some : (links : List Link) (o : Option Term) (l : Link) → IsHead links o (Some l) → HasNode links o l
 head_some links None l h = absurd h
@@ -198,7 +198,7 @@ numbers_drop equations (c ∷ cs) (suc k) n = numbers_drop equations cs k (λ y 
 -- the rest that is reached from a link, for the children from the second or a later one on
 pub tail_row : (g : Layout) (s : ℕ) (counts rests : List (List Count)) (l : Link) (child : ℕ) (r : Rest) → IsFilled g s counts rests → 2 ≤ child
     → ((ds : List ℕ) → IsRest g.links ds l.rest → child - 2 < length ds → IsRest g.links (drop (child - 2) ds) r)
-    → (cs : List ℕ) → AreNumbers (length g.of.value.equations) cs → IsNode g.links cs l → child ≤ length cs → TailRow g s counts rests child cs r
+    → (cs : List ℕ) → AreNumbers (length g.of.value.equations) cs → IsLinkOf g.links cs l → child ≤ length cs → TailRow g s counts rests child cs r
 tail_row g s counts rests l child r h two after cs n d le =
     let o = has_rest (length g.of.value.equations) g.links cs l n d in
     let stands = after o.others o.stands (omega (arith, o.long)) in

@@ -16,9 +16,9 @@ IsRest links (c ∷ cs) (Last e) = (e ≡ c) × (cs ≡ [])
 IsRest links (c ∷ cs) (More i) = (l : Link) × (slice_get links i ≡ Some l) × (l.first ≡ c) × IsRest links cs l.rest
 
 -- a link stands for these children: a first one, and others
-abbrev pub IsNode : List Link → List ℕ → Link → Type 0
-IsNode links [] l = ⊥
-IsNode links (c ∷ cs) l = (l.first ≡ c) × IsRest links cs l.rest
+abbrev pub IsLinkOf : List Link → List ℕ → Link → Type 0
+IsLinkOf links [] l = ⊥
+IsLinkOf links (c ∷ cs) l = (l.first ≡ c) × IsRest links cs l.rest
 
 -- each is the number of one of so many equations
 abbrev pub AreNumbers : ℕ → List ℕ → Type 0
@@ -26,7 +26,7 @@ AreNumbers equations cs = (c : ℕ) → In c cs → c < equations
 
 -- each link stands for some children, which are equations
 abbrev pub AreLinks : ℕ → List Link → Type 0
-AreLinks equations links = (i : ℕ) (l : Link) → slice_get links i ≡ Some l → (cs : List ℕ) × AreNumbers equations cs × IsNode links cs l
+AreLinks equations links = (i : ℕ) (l : Link) → slice_get links i ≡ Some l → (cs : List ℕ) × AreNumbers equations cs × IsLinkOf links cs l
 
 -- each link keeps its number
 abbrev pub Keeps : List Link → List Link → Type 0
@@ -47,13 +47,13 @@ pub record AddsRest (old new : List Link) (cs : List ℕ) (r : Rest) : Type 0 wh
 -- or the link does
 pub record AddsNode (old new : List Link) (cs : List ℕ) (l : Link) : Type 0 where
   pub kept : Keeps old new
-  pub node : IsNode new cs l
+  pub node : IsLinkOf new cs l
   pub links : (equations : ℕ) → AreNumbers equations cs → AreLinks equations old → AreLinks equations new
 
 -- a term's children: none of a point, a link of a node
 abbrev pub IsHead : List Link → Option Term → Option Link → Type 0
 IsHead links (Some Point) None = Unit {0}
-IsHead links (Some (Node root children)) (Some l) = IsNode links children l
+IsHead links (Some (Node root children)) (Some l) = IsLinkOf links children l
 IsHead links _ _ = ⊥
 
 -- the children of the first s terms of equation u

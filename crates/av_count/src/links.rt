@@ -1,7 +1,7 @@
 // The lists of children of a system's nodes. They share their ends: two nodes whose children agree from some child on have the
 // same links from there on.
 ghost use Rattle.std.specs.Prelude.{◌≡◌, ◌<◌, ◌≤◌, ℕ, List, [], length, drop, slice_get, Some, IfOk, OnErr};
-ghost use Rattle.av_count.specs.Links.{IsRest, IsNode, Joins, AddsRest, AddsNode};
+ghost use Rattle.av_count.specs.Links.{IsRest, IsLinkOf, Joins, AddsRest, AddsNode};
 
 use av_perm::Memory;
 use av_sys::Children;

@@ -5,7 +5,7 @@ ghost use Rattle.av_sys.specs.TreeLists.{count_at};
 ghost use Rattle.av_count.specs.Counts.{capped};
 ghost use Rattle.av_count.specs.Choices.{ways};
 ghost use Rattle.av_count.specs.Members.{tail_at, term_ways};
-ghost use Rattle.av_count.specs.Links.{IsNode, AreNumbers};
+ghost use Rattle.av_count.specs.Links.{IsLinkOf, AreNumbers};
 ghost use Rattle.av_count.specs.Tables.{IsLaidOut, IsFilled, CountsHold, RestsHold};
 
 use crate::count::Count;
@@ -23,8 +23,8 @@ fn node_value(layout: &Layout, counts: &Rows, rests: &Rows, link: Link, size: us
     requires layout { IsLaidOut layout.now }
     requires size { size ≤ layout.now.largest }
     requires filled { IsFilled layout.now size counts.now rests.now }
-    requires node { (cs : List ℕ) × AreNumbers (length layout.now.of.value.equations) cs × IsNode layout.now.links cs link }
-    ensures { (cs : List ℕ) → AreNumbers (length layout.now.of.value.equations) cs → IsNode layout.now.links cs link → result ≡ capped (ways (count_at layout.now.of.value) cs size) }
+    requires node { (cs : List ℕ) × AreNumbers (length layout.now.of.value.equations) cs × IsLinkOf layout.now.links cs link }
+    ensures { (cs : List ℕ) → AreNumbers (length layout.now.of.value.equations) cs → IsLinkOf layout.now.links cs link → result ≡ capped (ways (count_at layout.now.of.value) cs size) }
 {
     let first = counts.row(link.first as usize);
     match link.rest {
@@ -115,8 +115,8 @@ fn tail_value(
     requires size { size ≤ layout.now.largest }
     requires filled { IsFilled layout.now (size + 1) counts.now rests.now }
     requires least { 1 ≤ child }
-    requires node { (cs : List ℕ) × AreNumbers (length layout.now.of.value.equations) cs × IsNode layout.now.links cs link × (child ≤ length cs) }
-    ensures { (cs : List ℕ) → AreNumbers (length layout.now.of.value.equations) cs → IsNode layout.now.links cs link → child ≤ length cs → result ≡ capped (ways (count_at layout.now.of.value) (drop (child - 1) cs) size) }
+    requires node { (cs : List ℕ) × AreNumbers (length layout.now.of.value.equations) cs × IsLinkOf layout.now.links cs link × (child ≤ length cs) }
+    ensures { (cs : List ℕ) → AreNumbers (length layout.now.of.value.equations) cs → IsLinkOf layout.now.links cs link → child ≤ length cs → result ≡ capped (ways (count_at layout.now.of.value) (drop (child - 1) cs) size) }
 {
     if child == 1 {
         return node_value(layout, counts, rests, link, size);

@@ -82,14 +82,14 @@ lifted_more o r π αs i start old new a eo en er ea =
     en ∙ rw (eo, er, ea, add-one i) (append_assoc start (joined (lifted o π αs) i) (lifted o π αs i) ∙ ap (λ (l : List ℕ). start ++ l) (joined_more i (lifted o π αs)))
 
 -- what a tree with a root keeps
-pub record IsNode (π : List ℕ) (ts : List RootTree) (t : RootTree) : Type 0 where
+pub record IsRootedTree (π : List ℕ) (ts : List RootTree) (t : RootTree) : Type 0 where
   pub count : length ts ≡ length π
   pub word : value t ≡ inflate π (map value ts)
   pub long : length (value t) ≡ sum_by length (map value ts)
   pub few : sum_by length (map value ts) ≤ 160
 
 -- a tree with a root keeps it
-pub node_of : (root : Option (List ℕ)) (π : List ℕ) (ts : List RootTree) (t : RootTree) → IsFormed (record { root = root; blocks = as_trees ts }) → root ≡ Some π → record { root = root; blocks = as_trees ts } ≡ t → IsNode π ts t
+pub node_of : (root : Option (List ℕ)) (π : List ℕ) (ts : List RootTree) (t : RootTree) → IsFormed (record { root = root; blocks = as_trees ts }) → root ≡ Some π → record { root = root; blocks = as_trees ts } ≡ t → IsRootedTree π ts t
 node_of root π ts t h e q =
     let f : FitsRoot π (as_trees ts) = subst (λ r. FitsNode r (as_trees ts)) e h.top in
     let n : length ts ≡ length π = sym (count_as_trees ts) ∙ f.blocks in
@@ -164,7 +164,7 @@ raised_none [] = refl
 raised_none (x ∷ a) = let e : x + 0 ≡ x = omega arith in ap₂ (λ (y : ℕ) (b : List ℕ). y ∷ b) e (raised_none a)
 
 -- all blocks, raised, are the word of the tree, raised
-pub lifted_end : (o i : ℕ) (π : List ℕ) (ts : List RootTree) (now : RootTree) (start new : List ℕ) → IsNode π ts now → new ≡ start ++ joined (lifted o π (map value ts)) i → i ≡ length π
+pub lifted_end : (o i : ℕ) (π : List ℕ) (ts : List RootTree) (now : RootTree) (start new : List ℕ) → IsRootedTree π ts now → new ≡ start ++ joined (lifted o π (map value ts)) i → i ≡ length π
     → new ≡ start ++ raised o (value now)
 lifted_end o i π ts now start new n e q =
     let all : joined (lifted o π (map value ts)) i ≡ raised o (value now) = ap (joined (lifted o π (map value ts))) q ∙ lifted_all o π (map value ts) ∙ ap (raised o) (sym n.word) in

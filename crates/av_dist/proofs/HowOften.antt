@@ -4,7 +4,7 @@ use Rattle.std.proofs.lemmas.Grind.{flat_map-append}
 use Rattle.std.proofs.lemmas.List.Sums.{sum_by-cons, sum_by-append}
 use Rattle.av_perm.specs.Lists.{counting}
 use Rattle.av_perm.specs.Members.{In}
-use Rattle.av_perm.proofs.LexOrder.{counting_more}
+use Rattle.av_perm.proofs.RisingLists.{counting_more}
 use Rattle.av_dist.specs.Rows.{how_often}
 
 -- a count over lists joined, and over one more element

@@ -19,7 +19,8 @@ use Rattle.av_build.specs.Lean.{name_of, lean_equation, kept, lean}
 use Rattle.av_perm.proofs.ListLaws.{get_In}
 use Rattle.av_build.proofs.ListPlaces.{part_sum}
 use Rattle.av_build.proofs.ShortNames.{IsShortOver, first_short, class_short}
-use Rattle.av_check.specs.Claims.{IsPattern, ArePatterns, IsNamedByPatterns}
+use Rattle.av_text.specs.Ranges.{IsPattern}
+use Rattle.av_check.specs.Claims.{ArePatterns, IsNamedByPatterns}
 use Rattle.av_session.specs.Classes.{in_format}
 
 -- each name of a system is one of patterns

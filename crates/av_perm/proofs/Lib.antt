@@ -16,7 +16,10 @@ pub mod TopWords
 pub mod Classes
 pub mod WordTests
 pub mod PermWords
+pub mod Monotone
 pub mod LexOrder
+pub mod DescentTests
+pub mod FewWords
 pub mod WordFacts
 pub mod WordLists
 pub mod SimpleWords

@@ -1,5 +1,5 @@
 -- Strictly increasing lists of numbers are the choices of a run of numbers.
-use Rattle.std.proofs.Common.{◌≡◌, ℕ, zero, suc, ◌+◌, ◌<◌, ◌≤◌, inl, inr, List, [], ◌∷◌, length, refl, sym, ap, subst, arith}
+use Rattle.std.proofs.Common.{◌≡◌, ℕ, zero, suc, ◌+◌, ◌<◌, ◌≤◌, inl, inr, List, [], ◌∷◌, ◌++◌, length, refl, sym, ap, subst, arith, add-zero, add-suc, suc-add}
 use Rattle.std.proofs.lemmas.Bool.{cases_eq}
 use Rattle.av_perm.specs.Lists.{choices, counting, before_each}
 use Rattle.av_perm.specs.Relations.{at}
@@ -9,6 +9,11 @@ use Rattle.av_perm.proofs.Membership.{In, In_append_cases, append_left, append_r
 pub length_counting : (n lo : ℕ) → length (counting lo n) ≡ n
 length_counting zero lo = refl
 length_counting (suc n) lo = ap suc (length_counting n (suc lo))
+
+-- one more number in turn
+pub counting_more : (lo n : ℕ) → counting lo n ++ (lo + n) ∷ [] ≡ counting lo (suc n)
+counting_more lo zero = rw (add-zero lo) refl
+counting_more lo (suc n) = ap (λ (xs : List ℕ). lo ∷ xs) (rw (add-suc lo n, ← suc-add lo n) (counting_more (suc lo) n))
 
 -- the number at a place of a run
 pub counting_at : (n lo s : ℕ) → s < n → at (counting lo n) s ≡ lo + s

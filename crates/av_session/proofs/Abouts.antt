@@ -33,7 +33,7 @@ use Rattle.av_session.proofs.SolvedClasses.{done_to, done_from, too_large_to, to
 
 -- the words of a basis line are words
 pub are_words : (ws : List (List ℕ)) → All IsPattern ws → AreWords ws
-are_words ws all i h = let b = All-get_or IsPattern ws i [] h all in word_from (get_or ws i []) (and_parts (is_word (get_or ws i [])) (nat_le (length (get_or ws i [])) MAX_LENGTH) b.word).0
+are_words ws all i h = (All-get_or IsPattern ws i [] h all).word
 
 -- of two bases that make the same class
 module _ (A B : List (List ℕ)) (same : (σ : List ℕ) → InClass A σ ↔ InClass B σ) where

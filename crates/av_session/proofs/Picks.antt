@@ -21,7 +21,7 @@ use Rattle.av_stat.specs.Listed.{words_of}
 use Rattle.av_text.specs.declared.queries.DistKind.{DistKind}
 use Rattle.av_text.specs.Queries.{stat_kind}
 use Rattle.av_session.specs.Answers.{picked}
-use Rattle.av_session.specs.Runs.{by_rank, ArePicked, IsCountOf, HasBars}
+use Rattle.av_session.specs.Runs.{by_rank, ArePicked, IsMemberCount, HasBars}
 
 -- the first k of some words with their ranks, from rank r on: ranks are from r on, and below r + k
 taken_to : (k : ℕ) (ws : List (List ℕ)) (r : ℕ) (row : ℕ × List ℕ) → In row (take k (ranked r ws)) → (r ≤ row.0) × (row.0 < r + k) × (slice_get ws (row.0 - r) ≡ Some row.1)
@@ -68,7 +68,7 @@ are_picked t v ws = record {
 }
 
 -- how many of the members have a value
-is_count : (basis required ws : List (List ℕ)) (t : StatKind) (n v : ℕ) → IsListOf (InClassWithAt basis required n) ws → IsCountOf basis required t n v (how_many t ws v)
+is_count : (basis required ws : List (List ℕ)) (t : StatKind) (n v : ℕ) → IsListOf (InClassWithAt basis required n) ws → IsMemberCount basis required t n v (how_many t ws v)
 unfolding how_many
 is_count basis required ws t n v l = record {
   words = filter (λ w. nat_eq (statistic_of t w) v) ws;
@@ -97,8 +97,8 @@ has_bars basis required ws t n l =
           let own = In_map histogram_pair (bars t ws) b i in
           let c = h.counted own.0 own.1 in
           let many : how_many t ws own.0.value ≡ own.0.count = sym c.0 in
-          subst (λ (z : ℕ × ℕ). (1 ≤ z.1) × IsCountOf basis required t n z.0 z.1) (sym own.2)
-          (omega (arith, c.1), subst (IsCountOf basis required t n own.0.value) many (is_count basis required ws t n own.0.value l));
+          subst (λ (z : ℕ × ℕ). (1 ≤ z.1) × IsMemberCount basis required t n z.0 z.1) (sym own.2)
+          (omega (arith, c.1), subst (IsMemberCount basis required t n own.0.value) many (is_count basis required ws t n own.0.value l));
       whole = λ σ c. subst (In (statistic_of t σ)) (sym (values_of (bars t ws))) (h.whole σ ((l.members σ).1 c));
     }
 

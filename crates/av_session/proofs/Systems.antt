@@ -38,12 +38,12 @@ use Rattle.av_build.specs.Built.{IsSystemOf}
 use Rattle.av_simple.specs.Searched.{gap_of}
 use Rattle.av_print.proofs.ReadSystems.{system_text_once}
 use Rattle.av_union.specs.declared.limits.TheConstants.{MAX_OVERLAY_LENGTH}
-use Rattle.av_union.specs.Union.{AreShort, is_in_both, longest, words_up_to, union}
+use Rattle.av_union.specs.Union.{AreShortTogether, is_in_both, longest, words_up_to, union}
 use Rattle.av_union.proofs.Unions.{union_law}
 use Rattle.av_text.specs.declared.script.Script.{Script}
-use Rattle.av_text.specs.Ranges.{IsPattern, ArePatterns, KeepsLimits, required}
+use Rattle.av_text.specs.Ranges.{IsPattern, IsPatternLine, KeepsLimits, required}
 use Rattle.av_text.proofs.Kept.{read_kept}
-use Rattle.av_session.specs.Solved.{basis_with, basis_of, lists_of, IsBasis, IsRequired}
+use Rattle.av_session.specs.Solved.{basis_with, basis_of, lists_of, IsBasis, AreRequiredWords}
 use Rattle.av_session.specs.declared.subject.Subject.{Subject}
 use Rattle.av_session.specs.Classes.{required_of, in_format, IsSettledClass}
 use Rattle.av_session.specs.Due.{settled_text, script_text, text_due}
@@ -54,20 +54,20 @@ use Rattle.av_session.proofs.SolvedClasses.{IsSettledAs, settled_as}
 use Rattle.av_session.proofs.ClassAnswers.{has_answers}
 
 -- words that are some of a line of patterns are as short as these
-short_of : (ws some : List (List ℕ)) → ArePatterns ws → ((w : List ℕ) → In w some → In w ws) → All (λ w. length w ≤ MAX_PATTERN_LENGTH) some
+short_of : (ws some : List (List ℕ)) → IsPatternLine ws → ((w : List ℕ) → In w some → In w ws) → All (λ w. length w ≤ MAX_PATTERN_LENGTH) some
 short_of ws some k among = each_all (λ w. length w ≤ MAX_PATTERN_LENGTH) some short
   where
     short : Each (λ w. length w ≤ MAX_PATTERN_LENGTH) some
     short w i = let p = at_In ws w [] (among w i) in subst (λ v. length v ≤ MAX_PATTERN_LENGTH) p.2 (All-get_or IsPattern ws p.0 [] p.1 k.words).short
 
 -- a word of the basis of a union is no longer than an overlay may be
-union_short : (first second : List (List ℕ)) (w : List ℕ) → AreWords first → AreWords second → AreShort first second → In w (union first second) → length w ≤ MAX_OVERLAY_LENGTH
+union_short : (first second : List (List ℕ)) (w : List ℕ) → AreWords first → AreWords second → AreShortTogether first second → In w (union first second) → length w ≤ MAX_OVERLAY_LENGTH
 union_short first second w f g short i =
     let s = ((union_law first second f g).spanned w i).spans in
     omega (arith, short s.0 s.1 s.2 s.3, s.6)
 
 -- the basis that two lists give, where there is a second or not, has no word of more than MAX_PATTERN_LENGTH entries
-with_short : (first : List (List ℕ)) (o : Option (List (List ℕ))) → ArePatterns first → ArePatterns (unwrap_or o []) → AreShort first (unwrap_or o [])
+with_short : (first : List (List ℕ)) (o : Option (List (List ℕ))) → IsPatternLine first → IsPatternLine (unwrap_or o []) → AreShortTogether first (unwrap_or o [])
     → All (λ w. length w ≤ MAX_PATTERN_LENGTH) (minimal (basis_with first o))
 with_short first None f g short = short_of first (minimal first) f (λ w i. ((minimal_is first w).0 i).member)
 with_short first (Some second) f g short = each_all (λ w. length w ≤ MAX_PATTERN_LENGTH) (minimal (union first second)) (λ w i.
@@ -81,8 +81,8 @@ basis_kept script k = record {
 }
 
 -- the words of a script's two lines are short together, where it has a union line
-pub short_lists : (script : Script) (second : List (List ℕ)) → KeepsLimits script → script.union_with ≡ Some second → AreShort script.basis second
-short_lists script second k is = subst (λ o. AreShort script.basis (unwrap_or o [])) is k.short
+pub short_lists : (script : Script) (second : List (List ℕ)) → KeepsLimits script → script.union_with ≡ Some second → AreShortTogether script.basis second
+short_lists script second k is = subst (λ o. AreShortTogether script.basis (unwrap_or o [])) is k.short
 
 -- the basis of a union is reduced already
 pub union_reduced : (first second : List (List ℕ)) → union first second ≡ minimal (union first second)
@@ -90,15 +90,15 @@ unfolding union
 union_reduced first second = sym (minimal_again (filter (is_in_both first second) (words_up_to (longest first + longest second))))
 
 -- the maximal of its required words but for the word 1
-pub tops_of : (script : Script) → KeepsLimits script → IsRequired (top (required script))
+pub tops_of : (script : Script) → KeepsLimits script → AreRequiredWords (top (required script))
 tops_of script k = record {
   reduced = top_again (required script);
   short = short_of (required script) (top (required script)) k.required (λ w i. ((top_is (required script) w).0 i).member);
 }
 
 -- the same, where it has a line of them or not
-pub required_are : (script : Script) → KeepsLimits script → IsRequired (unwrap_or (option_map top script.require) [])
-required_are script k = subst IsRequired (sym (reduced_required script.require)) (tops_of script k)
+pub required_are : (script : Script) → KeepsLimits script → AreRequiredWords (unwrap_or (option_map top script.require) [])
+required_are script k = subst AreRequiredWords (sym (reduced_required script.require)) (tops_of script k)
 
 -- the simple words below a gap
 pub below_roots : (basis : List (List ℕ)) (g : ℕ) → suc g ≤ MAX_ROOT_LENGTH → AreRoots (simples_below basis g)

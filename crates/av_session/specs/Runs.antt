@@ -193,7 +193,7 @@ pub record IsSummary (xs : List ℕ) : Type 0 where
   pub none_greater : (x : ℕ) → In x xs → x ≤ greatest_of xs
 
 -- how many permutations of length n of the class have a value of a statistic: as many as a list of exactly these, each once, has
-pub record IsCountOf (basis required : List (List ℕ)) (t : StatKind) (n v count : ℕ) : Type 0 where
+pub record IsMemberCount (basis required : List (List ℕ)) (t : StatKind) (n v count : ℕ) : Type 0 where
   pub words : List (List ℕ)
   pub listed : IsListOf (λ σ. InClassWithAt basis required n σ × (statistic_of t σ ≡ v)) words
   pub many : length words ≡ count
@@ -202,7 +202,7 @@ pub record IsCountOf (basis required : List (List ℕ)) (t : StatKind) (n v coun
 -- says how many of them have the value, one at least, and each of them has its value there
 pub record HasBars (basis required : List (List ℕ)) (t : StatKind) (n : ℕ) (bs : List (ℕ × ℕ)) : Type 0 where
   pub increasing : Ascending nat_cmp (map (λ (b : ℕ × ℕ). b.0) bs)
-  pub counted : (b : ℕ × ℕ) → In b bs → (1 ≤ b.1) × IsCountOf basis required t n b.0 b.1
+  pub counted : (b : ℕ × ℕ) → In b bs → (1 ≤ b.1) × IsMemberCount basis required t n b.0 b.1
   pub whole : (σ : List ℕ) → InClassWithAt basis required n σ → In (statistic_of t σ) (map (λ (b : ℕ × ℕ). b.0) bs)
 
 -- the order of rows by their ranks

@@ -23,7 +23,7 @@ pub record IsBasis (basis : List (List ℕ)) : Type 0 where
   pub short : All (λ w. length w ≤ MAX_PATTERN_LENGTH) basis
 
 -- a list of maximal words but for the word 1, which are words of at most MAX_PATTERN_LENGTH entries
-pub record IsRequired (required : List (List ℕ)) : Type 0 where
+pub record AreRequiredWords (required : List (List ℕ)) : Type 0 where
   pub reduced : top required ≡ required
   pub short : All (λ w. length w ≤ MAX_PATTERN_LENGTH) required
 

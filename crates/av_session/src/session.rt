@@ -4,7 +4,7 @@ ghost use Rattle.std.specs.Option.{option_map};
 ghost use Rattle.std.specs.Io.KnownBytes.{Appends};
 ghost use Rattle.av_io.specs.Causes.{Rose};
 ghost use Rattle.av_perm.specs.Class.{minimal, top};
-ghost use Rattle.av_union.specs.Union.{AreShort, union};
+ghost use Rattle.av_union.specs.Union.{AreShortTogether, union};
 ghost use Rattle.av_text.specs.Ranges.{KeepsLimits};
 ghost use Rattle.av_print.specs.Wrote.{AppendsPart};
 ghost use Rattle.av_session.specs.Options.{IsAllowed};
@@ -27,7 +27,7 @@ use std::alloc::Global;
 
 /// The basis of the union of two classes, which is its own list of minimal words.
 fn united_basis(alloc: Global, first: &Words, second: &Words) -> Result<Words, Memory>
-    requires { AreShort first.now second.now }
+    requires { AreShortTogether first.now second.now }
     ensures { IfOk result (λ words. words ≡ minimal (union first.now second.now)) }
 {
     unite(alloc, first, second)

@@ -7,7 +7,7 @@ ghost use Rattle.av_build.specs.Laws.{AreRoots};
 ghost use Rattle.av_build.specs.Built.{IsSystemOf, IsBuilt};
 ghost use Rattle.av_session.specs.Classes.{IsSettledClass, required_of, in_format};
 ghost use Rattle.av_session.specs.Options.{IsAllowed};
-ghost use Rattle.av_session.specs.Solved.{IsBasis, IsRequired, grown_to, sized, solved, status_of};
+ghost use Rattle.av_session.specs.Solved.{IsBasis, AreRequiredWords, grown_to, sized, solved, status_of};
 
 use crate::options::Options;
 use crate::status::Status;
@@ -169,7 +169,7 @@ fn sized(
 ) -> Result<Solved, Memory>
     requires gap { gap_of subject.found ≡ Some gap }
     requires basis { IsBasis subject.found.basis }
-    requires required { IsRequired (required_of subject) }
+    requires required { AreRequiredWords (required_of subject) }
     requires some { 1 ≤ limit }
     requires few { limit ≤ MAX_SIZE }
     ensures { IfOk result (λ s. s ≡ sized subject gap limit format (grown_to subject.found.basis (required_of subject) gap limit)) }
@@ -186,7 +186,7 @@ fn sized(
 /// The canonical system of what a script asks about.
 fn built(alloc: Global, subject: &Subject, roots: &Words, limit: usize) -> Result<Built, Memory>
     requires basis { IsBasis subject.now.found.basis }
-    requires required { IsRequired (required_of subject.now) }
+    requires required { AreRequiredWords (required_of subject.now) }
     requires roots { AreRoots roots.now }
     requires some { 1 ≤ limit }
     requires few { limit ≤ MAX_SIZE }
@@ -212,7 +212,7 @@ pub fn solve(
 ) -> Result<Solved, Memory>
     requires options { IsAllowed options.now }
     requires basis { IsBasis basis.now }
-    requires required { IsRequired (unwrap_or require []) }
+    requires required { AreRequiredWords (unwrap_or require []) }
     ensures { IfOk result (λ s. s ≡ solved options.now united basis.now require format) }
 {
     let found = search(alloc, basis, options.max_simple)?;

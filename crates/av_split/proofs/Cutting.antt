@@ -22,7 +22,7 @@ use Rattle.av_split.specs.declared.steps.Step.TheVariants.{Holds, Fails, Asks}
 use Rattle.av_split.specs.Split.{both, either, turned, all_of, some_of, Demand, demand_known, demands_known, at_open, first_open, next_question, questions_of, boxes_by}
 use Rattle.av_split.specs.Boxes.{Question, Box, child_of, added, word_rules, demands, boxes}
 use Rattle.av_split.specs.Laws.{IsTidy}
-use Rattle.av_split.specs.Marks.{unmarked, once, relates, IsSettled, constraint_of, box_of, free_mark}
+use Rattle.av_split.specs.Marks.{unmarked, once, relates, IsSettledRow, constraint_of, box_of, free_mark}
 use Rattle.av_split.specs.Cells.{question_at, IsQuestionOf, AreQuestionsOf, IsDemandOf, AreDemandsOf, known_at, IsCellOf, HaveCellsOf, IsStep}
 use Rattle.av_split.specs.Paths.{parts_left, parts_of, CanEnter, AreTurns, IsEntered, GoesBack}
 use Rattle.av_split.specs.Walk.{IsRow, AreRows, IsOpen, AreCuts, done_before, last_cut, IsPath, IsWalk, left_of, Advances, CanStep}
@@ -194,7 +194,7 @@ once_other r b k e = grind arith
 
 -- the rows once the pattern of a cell is settled
 module _ (r : Bool) (k : ℕ) (ps : List (List ℕ)) (rows next : List (List Mark)) (row : List Mark) (cell : Cell) (is : AreRows k ps rows) (h : cell.child < k) (g : cell.pattern < length ps) (word : IsWord (get_or ps cell.pattern []))
-    (unknown : known_at rows cell ≡ Open) (s : IsSettled r ps cell.pattern (get_or rows cell.child []) row) (e : next ≡ set rows cell.child row) where
+    (unknown : known_at rows cell ≡ Open) (s : IsSettledRow r ps cell.pattern (get_or rows cell.child []) row) (e : next ≡ set rows cell.child row) where
   pub here : cell.child < length rows
   here = let n = is.count in omega arith
 

@@ -21,7 +21,7 @@ use Rattle.av_name.proofs.Growth.{IsFit}
 use Rattle.av_split.specs.declared.rows.Mark.{Mark}
 use Rattle.av_split.specs.Boxes.{added}
 use Rattle.av_split.specs.Laws.{IsTidy}
-use Rattle.av_split.specs.Marks.{unmarked, once, is_side, is_named, next_mark, relates, IsSettled, named, constraint_of, free_mark}
+use Rattle.av_split.specs.Marks.{unmarked, once, is_side, is_named, next_mark, relates, IsSettledRow, named, constraint_of, free_mark}
 use Rattle.av_split.specs.Walk.{IsRow}
 use Rattle.av_split.proofs.WordSplit.{stands, stands_itself, added_known, added_fit, added_tidy, free_tidy, free_fit}
 
@@ -209,13 +209,13 @@ pub next_itself : (r : Bool) (m : Mark) → m.known ≡ Unknown → is_named r (
 next_itself r m e = grind arith
 
 -- what is known once a pattern is settled
-pub settled_known : (r : Bool) (ps : List (List ℕ)) (n : ℕ) (row next : List Mark) → IsSettled r ps n row next → (i : ℕ) → i < length ps
+pub settled_known : (r : Bool) (ps : List (List ℕ)) (n : ℕ) (row next : List Mark) → IsSettledRow r ps n row next → (i : ℕ) → i < length ps
     → (get_or next i unmarked).known ≡ once r (relates r ps n i) (get_or row i unmarked).known
 settled_known r ps n row next s i h = ap (λ (m : Mark). m.known) (s.marks i h) ∙ next_tells r (i == n) (relates r ps n i) (get_or row i unmarked)
 
 -- a row once pattern number `n`, of which nothing is known, is settled
 module _ (r : Bool) (ps : List (List ℕ)) (n : ℕ) (row next : List Mark) (is : IsRow ps row) (h : n < length ps) (word : IsWord (get_or ps n [])) (unknown : (get_or row n unmarked).known ≡ Unknown)
-    (s : IsSettled r ps n row next) where
+    (s : IsSettledRow r ps n row next) where
   -- nothing is known of the pattern
   pub known_open : known_of (constraint_of ps row) (get_or ps n []) ≡ Unknown
   known_open = sym (is.known n h) ∙ unknown

@@ -44,7 +44,7 @@ relates true ps p i = contains (get_or ps p []) (get_or ps i [])
 relates false ps p i = contains (get_or ps i []) (get_or ps p [])
 
 -- the marks of a child once pattern number `p` is settled
-pub record IsSettled (required : Bool) (ps : List (List ℕ)) (p : ℕ) (row next : List Mark) : Type 0 where
+pub record IsSettledRow (required : Bool) (ps : List (List ℕ)) (p : ℕ) (row next : List Mark) : Type 0 where
   pub size : length next ≡ length row
   pub marks : (i : ℕ) → i < length ps → get_or next i unmarked ≡ next_mark required (i == p) (relates required ps p i) (get_or row i unmarked)
 

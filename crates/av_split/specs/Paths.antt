@@ -6,7 +6,7 @@ use Rattle.av_split.specs.declared.rows.Mark.{Mark}
 use Rattle.av_split.specs.declared.path.Path.{Path}
 use Rattle.av_split.specs.declared.path.Turn.{Turn}
 use Rattle.av_split.specs.Boxes.{Box, word_rules}
-use Rattle.av_split.specs.Marks.{IsSettled, box_of}
+use Rattle.av_split.specs.Marks.{IsSettledRow, box_of}
 use Rattle.av_split.specs.Cells.{question_at}
 
 -- the rows of a box before it was cut
@@ -41,7 +41,7 @@ AreTurns {S} ps turns rows = (t : Turn S) → In t turns → (t.cell.child < len
 -- a path once the box with these rows, after these cuts, is cut by a cell, of which the pattern is required then, or avoided
 pub record IsEntered {S : Type 0} (required : Bool) (ps : List (List ℕ)) (cell : Cell) (state : S) (marks : List (List Mark)) (cuts : List (Turn S)) (next : Path S) : Type 0 where
   pub row : List Mark
-  pub settled : IsSettled required ps cell.pattern (get_or marks cell.child []) row
+  pub settled : IsSettledRow required ps cell.pattern (get_or marks cell.child []) row
   pub rows : next.rows.items ≡ set marks cell.child row
   pub turns : reverse next.turns.items ≡ record { cell = cell; row = get_or marks cell.child []; state = state; required = required } ∷ cuts
 

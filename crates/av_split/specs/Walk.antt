@@ -92,7 +92,7 @@ Takes None before after = (before ≡ []) × (after ≡ [])
 Takes (Some b) before after = before ≡ b ∷ after
 
 -- the same, unless memory is wanting, which ends the walk
-abbrev pub Gives : Option (Result Box Memory) → List Box → List Box → Type 0
-Gives None before after = (before ≡ []) × (after ≡ [])
-Gives (Some (Ok b)) before after = before ≡ b ∷ after
-Gives (Some (Err e)) before after = after ≡ []
+abbrev pub GivesBox : Option (Result Box Memory) → List Box → List Box → Type 0
+GivesBox None before after = (before ≡ []) × (after ≡ [])
+GivesBox (Some (Ok b)) before after = before ≡ b ∷ after
+GivesBox (Some (Err e)) before after = after ≡ []

@@ -1,7 +1,7 @@
 // The split of a root.
 ghost use Rattle.std.specs.Prelude.{◌≡◌, ◌≤◌, ◌∷◌, ◌++◌, [], length, All, IfOk, OnOk};
 ghost use Rattle.av_split.specs.Boxes.{demands, boxes};
-ghost use Rattle.av_split.specs.Walk.{IsWalk, left_of, Advances, CanStep, Takes, Gives};
+ghost use Rattle.av_split.specs.Walk.{IsWalk, left_of, Advances, CanStep, Takes, GivesBox};
 
 use crate::asked::demands_of;
 use crate::boxes::{BoxList, SplitBox};
@@ -78,7 +78,7 @@ impl<'a> Boxes<'a> {
 
     /// The next box. After `Memory` the walk has ended.
     pub fn next(&mut self) -> Option<Result<SplitBox, Memory>>
-        ensures { Gives result self.old self.new }
+        ensures { GivesBox result self.old self.new }
     {
         let path = self.path.take();
         match find(

@@ -2,7 +2,7 @@
 ghost use Rattle.std.specs.Prelude.{ℕ, ◌≡◌, ◌<◌, ◌==◌, [], map, length, get_or, set, replicate, false, IfOk, OnOk, ◌++◌};
 ghost use Rattle.av_perm.specs.Contain.{contains};
 ghost use Rattle.av_perm.specs.Class.{in_shortlex};
-ghost use Rattle.av_split.specs.Marks.{relates, IsSettled, named, named_at, box_of, free_mark, IsOrder};
+ghost use Rattle.av_split.specs.Marks.{relates, IsSettledRow, named, named_at, box_of, free_mark, IsOrder};
 ghost use Rattle.av_split.specs.Cells.{containments_of};
 
 use crate::boxes::SplitBox;
@@ -138,7 +138,7 @@ impl Table {
     pub fn settle(&self, required: bool, p: usize, row: &mut Row)
         requires pattern { p < length self.now }
         requires size { length row.old ≡ length self.now }
-        ensures { IsSettled required self.now p row.old row.new }
+        ensures { IsSettledRow required self.now p row.old row.new }
     {
         for i in 0..self.patterns.as_slice().len() {
             let mark = next_mark(required, i == p, self.relates(required, p, i), row.get(i));

@@ -4,10 +4,11 @@ use Rattle.std.proofs.lemmas.Bool.{and_from, leb-true}
 use Rattle.std.specs.List.{list_all, filter_map}
 use Rattle.std.proofs.lemmas.List.Elements.{All-nil, All-cons, All-head}
 use Rattle.av_perm.specs.Members.{In}
-use Rattle.av_perm.specs.Word.{is_word, is_perm}
+use Rattle.av_perm.specs.Word.{is_word}
 use Rattle.av_perm.proofs.Tests.{all_from, all_to}
+use Rattle.av_perm.proofs.WordTests.{word_from}
 use Rattle.av_union.specs.declared.limits.TheConstants.{MAX_OVERLAY_LENGTH}
-use Rattle.av_union.specs.Union.{AreShort}
+use Rattle.av_union.specs.Union.{AreShortTogether}
 use Rattle.av_text.specs.declared.kind.Kind.{Kind}
 use Rattle.av_text.specs.declared.kind.Kind.TheVariants.{BadWord, LongWord, ManyWords, BadByte, TooLong, UnknownQuery, BadNumber, Range, SecondBasis, SecondRequire, SecondFormat, LongUnion, SecondUnion}
 use Rattle.av_text.specs.declared.queries.Query.{Query}
@@ -25,7 +26,7 @@ use Rattle.std.specs.Str.Parse.{digits_value}
 use Rattle.av_text.specs.Numerals.{is_numeral, number_in}
 use Rattle.av_text.specs.Queries.{query_of}
 use Rattle.av_text.specs.Read.{Fault, patterns, patterns_once, basis_said, union_said, require_said, format_said, is_comment, is_basis, is_union, is_require, is_format, tokens_said, line_said, at_line, basis_in, union_line, is_short, union_words, required_in, format_in, query_in, first_of, unseen, after, lines_said, script_with, script_of, read}
-use Rattle.av_text.specs.Ranges.{IsPattern, ArePatterns, IsFormat, united, KeepsLimits}
+use Rattle.av_text.specs.Ranges.{IsPattern, IsPatternLine, IsFormat, united, KeepsLimits}
 
 -- where steps give a value, so did the first of them
 first_gave : {A B E : Type 0} (r : Result A E) (f : A → Result B E) (b : B) → (r >>= f) ≡ Ok b → (a : A) × (r ≡ Ok a) × (f a ≡ Ok b)
@@ -51,13 +52,9 @@ word_kept limit t w e = by (entries_of t) e
     by None f = cc
     by (Some xs) f = checked_kept limit xs w f
 
--- such a word is one that `Perm` holds
-is_perm_from : (w : List ℕ) → is_word w ≡ true → length w ≤ MAX_LENGTH → IsTrue (is_perm w)
-is_perm_from w word short = and_from (is_word w) (nat_le (length w) MAX_LENGTH) word (le-leb (length w) MAX_LENGTH short)
-
 -- a word of such a line
 pattern_kept : (t w : List ℕ) → word_in MAX_PATTERN_LENGTH t ≡ Ok w → IsPattern w
-pattern_kept t w e = let k = word_kept MAX_PATTERN_LENGTH t w e in record { word = is_perm_from w k.0 (omega (arith, k.1)); short = k.1 }
+pattern_kept t w e = let k = word_kept MAX_PATTERN_LENGTH t w e in record { word = word_from w k.0; short = k.1 }
 
 -- such a line has as many words as tokens
 patterns_kept : (ts ws : List (List ℕ)) → patterns ts ≡ Ok ws → (length ws ≡ length ts) × All IsPattern ws
@@ -73,9 +70,9 @@ patterns_kept (t ∷ ts) ws e =
 
 -- a basis line keeps the limits, and no earlier line is one; the same of a union line and of a line of required words
 abbrev pub Keeps : Seen → Says → Type 0
-Keeps seen (Basis ws) = (seen.basis ≡ false) × ArePatterns ws
-Keeps seen (Unites ws) = (seen.union_with ≡ false) × ArePatterns ws
-Keeps seen (Requires ws) = (seen.require ≡ false) × ArePatterns ws
+Keeps seen (Basis ws) = (seen.basis ≡ false) × IsPatternLine ws
+Keeps seen (Unites ws) = (seen.union_with ≡ false) × IsPatternLine ws
+Keeps seen (Requires ws) = (seen.require ≡ false) × IsPatternLine ws
 Keeps seen (Formats n) = (seen.format ≡ false) × IsFormat n
 Keeps seen _ = Unit {0}
 
@@ -96,12 +93,12 @@ number_kept low high t n e = by (is_numeral t) (nat_le low v) (nat_le v high) re
         subst (λ m. (low ≤ m) × (m ≤ high)) same (leb-true low v p, leb-true v high q)
 
 -- the words of a line that is no second one
-once_kept : (seen : Bool) (second : Kind) (ts ws : List (List ℕ)) → patterns_once seen second ts ≡ Ok ws → (seen ≡ false) × ArePatterns ws
+once_kept : (seen : Bool) (second : Kind) (ts ws : List (List ℕ)) → patterns_once seen second ts ≡ Ok ws → (seen ≡ false) × IsPatternLine ws
 unfolding patterns_once
 once_kept seen second ts ws e = by seen (nat_lt MAX_PATTERNS (length ts)) refl refl e
   where
     by : (a b : Bool) → seen ≡ a → nat_lt MAX_PATTERNS (length ts) ≡ b
-        → cond a (Err second) (cond b (Err ManyWords) (patterns ts)) ≡ Ok ws → (seen ≡ false) × ArePatterns ws
+        → cond a (Err second) (cond b (Err ManyWords) (patterns ts)) ≡ Ok ws → (seen ≡ false) × IsPatternLine ws
     by true b earlier many f = cc
     by false true earlier many f = cc
     by false false earlier many f =
@@ -173,17 +170,17 @@ line_words (Some union) = union.words
 
 -- what the lines say keeps the limits
 record KeepsAll (said : List Says) : Type 0 where
-  basis : All ArePatterns (filter_map basis_in said)
-  united : (n : ℕ) → ArePatterns (line_words (union_line n said))
-  required : All ArePatterns (filter_map required_in said)
+  basis : All IsPatternLine (filter_map basis_in said)
+  united : (n : ℕ) → IsPatternLine (line_words (union_line n said))
+  required : All IsPatternLine (filter_map required_in said)
   format : All IsFormat (filter_map format_in said)
 
 -- what one line more says
 kept_cons : (seen : Seen) (said : Says) (more : List Says) → Keeps seen said → KeepsAll more → KeepsAll (said ∷ more)
 kept_cons seen Nothing more one all = record { basis = all.basis; united = λ n. all.united (suc n); required = all.required; format = all.format }
-kept_cons seen (Basis ws) more one all = record { basis = All-cons ArePatterns ws (filter_map basis_in more) one.1 all.basis; united = λ n. all.united (suc n); required = all.required; format = all.format }
+kept_cons seen (Basis ws) more one all = record { basis = All-cons IsPatternLine ws (filter_map basis_in more) one.1 all.basis; united = λ n. all.united (suc n); required = all.required; format = all.format }
 kept_cons seen (Unites ws) more one all = record { basis = all.basis; united = λ n. one.1; required = all.required; format = all.format }
-kept_cons seen (Requires ws) more one all = record { basis = all.basis; united = λ n. all.united (suc n); required = All-cons ArePatterns ws (filter_map required_in more) one.1 all.required; format = all.format }
+kept_cons seen (Requires ws) more one all = record { basis = all.basis; united = λ n. all.united (suc n); required = All-cons IsPatternLine ws (filter_map required_in more) one.1 all.required; format = all.format }
 kept_cons seen (Formats n) more one all = record { basis = all.basis; united = λ n. all.united (suc n); required = all.required; format = All-cons IsFormat n (filter_map format_in more) one.1 all.format }
 kept_cons seen (Asks q) more one all = record { basis = all.basis; united = λ n. all.united (suc n); required = all.required; format = all.format }
 
@@ -193,7 +190,7 @@ line_gave n (Ok s) said e = let same : s ≡ said = cc in ap Ok same
 line_gave n (Err k) said e = cc
 
 -- no words keep the limits
-none_kept : ArePatterns []
+none_kept : IsPatternLine []
 none_kept = record { few = omega arith; words = All-nil IsPattern }
 
 -- all lines
@@ -209,9 +206,9 @@ lines_kept n seen (l ∷ ls) said e =
     subst KeepsAll (let same : first.0 ∷ more.0 ≡ said = cc in same) (kept_cons seen first.0 more.0 one all)
 
 -- and so do those of the first such line, if there is one
-first_kept : (lists : List (List (List ℕ))) → All ArePatterns lists → ArePatterns (unwrap_or (first_of lists) [])
+first_kept : (lists : List (List (List ℕ))) → All IsPatternLine lists → IsPatternLine (unwrap_or (first_of lists) [])
 first_kept [] all = none_kept
-first_kept (ws ∷ lists) all = All-head ArePatterns ws lists all
+first_kept (ws ∷ lists) all = All-head IsPatternLine ws lists all
 
 -- the format of the first format line, or the default one
 format_kept : (formats : List ℕ) → All IsFormat formats → IsFormat (unwrap_or (first_of formats) DEFAULT_FORMAT)
@@ -219,19 +216,19 @@ format_kept [] all = record { least = omega arith; most = omega arith }
 format_kept (n ∷ formats) all = All-head IsFormat n formats all
 
 -- lists that pass the test are short together
-short_from : (F G : List (List ℕ)) → is_short F G ≡ true → AreShort F G
+short_from : (F G : List (List ℕ)) → is_short F G ≡ true → AreShortTogether F G
 short_from F G e f g i j =
     leb-true (length f + length g) MAX_OVERLAY_LENGTH
     (all_from (λ g. nat_le (length f + length g) MAX_OVERLAY_LENGTH) G (all_from (λ f. list_all (λ g. nat_le (length f + length g) MAX_OVERLAY_LENGTH) G) F e f i) g j)
 
 -- and the other way round
-short_to : (F G : List (List ℕ)) → AreShort F G → is_short F G ≡ true
+short_to : (F G : List (List ℕ)) → AreShortTogether F G → is_short F G ≡ true
 short_to F G h =
     all_to (λ f. list_all (λ g. nat_le (length f + length g) MAX_OVERLAY_LENGTH) G) F
     (λ f i. all_to (λ g. nat_le (length f + length g) MAX_OVERLAY_LENGTH) G (λ g j. le-leb (length f + length g) MAX_OVERLAY_LENGTH (h f g i j)))
 
 -- so what tells whether they are is the test
-pub short_tells : (F G : List (List ℕ)) (b : Bool) → IsTrue b ↔ AreShort F G → b ≡ is_short F G
+pub short_tells : (F G : List (List ℕ)) (b : Bool) → IsTrue b ↔ AreShortTogether F G → b ≡ is_short F G
 short_tells F G true h = sym (short_to F G (h.0 refl))
 short_tells F G false h = by (is_short F G) refl
   where
@@ -240,23 +237,23 @@ short_tells F G false h = by (is_short F G) refl
     by false e = sym e
 
 -- the words of the union line
-union_kept : (basis : List (List ℕ)) (union : Option UnionLine) (other : Option (List (List ℕ))) → union_words basis union ≡ Ok other → ArePatterns (line_words union)
-    → ArePatterns (unwrap_or other []) × AreShort basis (unwrap_or other [])
+union_kept : (basis : List (List ℕ)) (union : Option UnionLine) (other : Option (List (List ℕ))) → union_words basis union ≡ Ok other → IsPatternLine (line_words union)
+    → IsPatternLine (unwrap_or other []) × AreShortTogether basis (unwrap_or other [])
 unfolding union_words
 union_kept basis None other e k =
-    subst (λ o. ArePatterns (unwrap_or o []) × AreShort basis (unwrap_or o [])) (let same : None ≡ other = cc in same) (none_kept, λ f g i j. absurd j)
+    subst (λ o. IsPatternLine (unwrap_or o []) × AreShortTogether basis (unwrap_or o [])) (let same : None ≡ other = cc in same) (none_kept, λ f g i j. absurd j)
 union_kept basis (Some union) other e k = by (is_short basis union.words) refl e
   where
     by : (b : Bool) → is_short basis union.words ≡ b
         → cond {A = Result (Option (List (List ℕ))) Fault} b (Ok (Some union.words)) (Err (record { line = union.line; kind = LongUnion })) ≡ Ok other
-        → ArePatterns (unwrap_or other []) × AreShort basis (unwrap_or other [])
+        → IsPatternLine (unwrap_or other []) × AreShortTogether basis (unwrap_or other [])
     by true s f =
-        subst (λ o. ArePatterns (unwrap_or o []) × AreShort basis (unwrap_or o [])) (let same : Some union.words ≡ other = cc in same) (k, short_from basis union.words s)
+        subst (λ o. IsPatternLine (unwrap_or o []) × AreShortTogether basis (unwrap_or o [])) (let same : Some union.words ≡ other = cc in same) (k, short_from basis union.words s)
     by false s f = cc
 
 -- the script of what the lines say
 script_kept : (bases requires : List (List (List ℕ))) (union : Option UnionLine) (formats : List ℕ) (queries : List Query) (script : Script)
-    → script_with bases union (first_of requires) (first_of formats) queries ≡ Ok script → All ArePatterns bases → ArePatterns (line_words union) → All ArePatterns requires
+    → script_with bases union (first_of requires) (first_of formats) queries ≡ Ok script → All IsPatternLine bases → IsPatternLine (line_words union) → All IsPatternLine requires
     → All IsFormat formats → KeepsLimits script
 script_kept [] requires union formats queries script e basis united required format = cc
 script_kept (first ∷ bases) requires union formats queries script e basis united required format =
@@ -265,7 +262,7 @@ script_kept (first ∷ bases) requires union formats queries script e basis unit
     let other = first_gave (union_words first union) (λ other. Ok (made other)) script e in
     let both = union_kept first union other.0 other.1 united in
     subst KeepsLimits (let same : made other.0 ≡ script = cc in same) (record {
-      basis = All-head ArePatterns first bases basis;
+      basis = All-head IsPatternLine first bases basis;
       second = both.0;
       short = both.1;
       required = first_kept requires required;

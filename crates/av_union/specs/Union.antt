@@ -54,8 +54,8 @@ unfoldable pub union : List (List ℕ) → List (List ℕ) → List (List ℕ)
 union first second = minimal (filter (is_in_both first second) (words_up_to (longest first + longest second)))
 
 -- each word of the one list and each of the other have together at most as many entries as an overlay
-abbrev pub AreShort : List (List ℕ) → List (List ℕ) → Type 0
-AreShort first second = (f g : List ℕ) → In f first → In g second → length f + length g ≤ MAX_OVERLAY_LENGTH
+abbrev pub AreShortTogether : List (List ℕ) → List (List ℕ) → Type 0
+AreShortTogether first second = (f g : List ℕ) → In f first → In g second → length f + length g ≤ MAX_OVERLAY_LENGTH
 
 -- each word of the list has fewer than n entries
 abbrev pub AreBelow : ℕ → List (List ℕ) → Type 0

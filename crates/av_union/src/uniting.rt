@@ -1,6 +1,6 @@
 // The basis of the union of two classes.
 ghost use Rattle.std.specs.Prelude.{◌≡◌, IfOk};
-ghost use Rattle.av_union.specs.Union.{AreShort, union};
+ghost use Rattle.av_union.specs.Union.{AreShortTogether, union};
 
 use crate::gathering::gather;
 use crate::partials::Partial;
@@ -11,7 +11,7 @@ use std::collections::BTreeSet;
 // The words of the basis of the union, as a set in shortlex order. Those that contain a word of the first list are gathered
 // when the first such word is gone through.
 fn gathered(alloc: Global, first: &Words, second: &Words) -> Result<BTreeSet<Perm>, Memory>
-    requires { AreShort first.now second.now }
+    requires { AreShortTogether first.now second.now }
     ensures { IfOk result (λ kept. kept.keys ≡ union first.now second.now) }
 {
     let _words = first.len();
@@ -41,7 +41,7 @@ fn listed(alloc: Global, kept: BTreeSet<Perm>) -> Result<Words, Memory>
 /// and no other different such word, in shortlex order. A word of the one list and a word of the other have together at most
 /// `MAX_OVERLAY_LENGTH` entries, which `are_short` tests. `Memory` comes only where memory is refused.
 pub fn unite(alloc: Global, first: &Words, second: &Words) -> Result<Words, Memory>
-    requires { AreShort first.now second.now }
+    requires { AreShortTogether first.now second.now }
     ensures { IfOk result (λ words. words ≡ union first.now second.now) }
 {
     listed(alloc, gathered(alloc, first, second)?)

@@ -30,7 +30,7 @@ use Rattle.av_walk.specs.Numbers.{IsLiteralOf, AreLiteralsOf, AreTermsOf}
 use Rattle.av_walk.specs.Sifts.{AreCellsOfTerms}
 use Rattle.av_walk.specs.Looks.{ending_of, IsLook}
 use Rattle.av_walk.specs.Paths.{treatment_at, IsCut, AreCuts, Inherits, IsPath}
-use Rattle.av_walk.specs.Ends.{IsEnd, Advances, CanAdvance}
+use Rattle.av_walk.specs.Ends.{IsEndOf, Advances, CanAdvance}
 use Rattle.av_walk.proofs.GenericWalk.{questions_with, splits_asked, falls, walk_leaf_only, walk_parts}
 use Rattle.av_walk.proofs.Treatments.{TreatmentOf, treatment_same, same_end, same_split}
 use Rattle.av_walk.proofs.Staying.{safe_then, known_then}
@@ -38,7 +38,7 @@ use Rattle.av_walk.proofs.Staying.{safe_then, known_then}
 -- a leaf was found, the first, or none, and the leaves are the same
 abbrev pub Finds : Option CellEnd → List (Leaf Box) → List (Leaf Box) → Type 0
 Finds None before after = before ≡ after
-Finds (Some end) before after = (l : Leaf Box) × IsEnd end l × (before ≡ l ∷ after)
+Finds (Some end) before after = (l : Leaf Box) × IsEndOf end l × (before ≡ l ∷ after)
 
 -- the weights of some boxes together
 abbrev pub weights : List (Demand Question) → List (List (Literal Question)) → List Box → ℕ
@@ -154,7 +154,7 @@ module _ (k : ℕ) (ps : List (List ℕ)) (ds : List (Demand Cell)) (es : List (
       fine : Fine k b
       fine = rows_fine k ps p.rows.items i.marks
 
-      ended : (kind : Kind) (end : CellEnd) → found ≡ Some end → IsEnd end (record { cell = b; ending = ending_of kind }) → treatment_at (known_at p.rows.items) ds ts ≡ ends (ending_of kind)
+      ended : (kind : Kind) (end : CellEnd) → found ≡ Some end → IsEndOf end (record { cell = b; ending = ending_of kind }) → treatment_at (known_at p.rows.items) ds ts ≡ ends (ending_of kind)
           → GoesBack ps (reverse p.turns.items) p.rows.items next → Advanced (parts_of ps (Some p)) next found
       ended kind end f h e g =
           let r = parts_back (reverse p.turns.items) p.rows.items next i.cuts g in

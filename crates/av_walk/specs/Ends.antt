@@ -23,16 +23,16 @@ pub record IsPlanned (S : System) (root : List ℕ) (e : Equation) (plan : Plan)
   pub all : AreAll plan.terms plan.all.items
 
 -- the end is that of the leaf, and a bare one tells its cell
-abbrev pub IsEnd : CellEnd → Leaf Box → Type 0
-IsEnd cells.Good l = l.ending ≡ good
-IsEnd (cells.Bare b) l = (l.ending ≡ bare) × (l.cell ≡ b)
-IsEnd cells.Twice l = l.ending ≡ twice
-IsEnd cells.Extra l = l.ending ≡ extra
+abbrev pub IsEndOf : CellEnd → Leaf Box → Type 0
+IsEndOf cells.Good l = l.ending ≡ good
+IsEndOf (cells.Bare b) l = (l.ending ≡ bare) × (l.cell ≡ b)
+IsEndOf cells.Twice l = l.ending ≡ twice
+IsEndOf cells.Extra l = l.ending ≡ extra
 
 -- a leaf is given, or a box is cut
 abbrev pub Advances : List (List ℕ) → Look → Path State → Option CellEnd → Option (Path State) → Type 0
 Advances ps (looks.Ends kind) p found next =
-    ((end : CellEnd) × (found ≡ Some end) × IsEnd end (record { cell = box_of ps p.rows.items; ending = ending_of kind })) × GoesBack ps (reverse p.turns.items) p.rows.items next
+    ((end : CellEnd) × (found ≡ Some end) × IsEndOf end (record { cell = box_of ps p.rows.items; ending = ending_of kind })) × GoesBack ps (reverse p.turns.items) p.rows.items next
 Advances ps (looks.Cut cell state) p found next = (found ≡ None) × (q : Path State) × (next ≡ Some q) × IsEntered false ps cell state p.rows.items (reverse p.turns.items) q
 
 -- so it can be
@@ -43,10 +43,10 @@ CanAdvance ps p (looks.Cut cell state) = CanEnter ps p.rows.items cell
 -- the first of some leaves was taken, if there is one
 abbrev pub Takes : Option CellEnd → List (Leaf Box) → List (Leaf Box) → Type 0
 Takes None before after = (before ≡ []) × (after ≡ [])
-Takes (Some end) before after = (l : Leaf Box) × IsEnd end l × (before ≡ l ∷ after)
+Takes (Some end) before after = (l : Leaf Box) × IsEndOf end l × (before ≡ l ∷ after)
 
 -- the same, unless memory is wanting, which ends the walk
-abbrev pub Gives : Option (Result CellEnd Memory) → List (Leaf Box) → List (Leaf Box) → Type 0
-Gives None before after = (before ≡ []) × (after ≡ [])
-Gives (Some (Ok end)) before after = (l : Leaf Box) × IsEnd end l × (before ≡ l ∷ after)
-Gives (Some (Err e)) before after = after ≡ []
+abbrev pub GivesEnd : Option (Result CellEnd Memory) → List (Leaf Box) → List (Leaf Box) → Type 0
+GivesEnd None before after = (before ≡ []) × (after ≡ [])
+GivesEnd (Some (Ok end)) before after = (l : Leaf Box) × IsEndOf end l × (before ≡ l ∷ after)
+GivesEnd (Some (Err e)) before after = after ≡ []

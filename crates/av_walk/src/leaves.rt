@@ -12,7 +12,7 @@ ghost use Rattle.av_walk.specs.Numbers.{AreTermsOf};
 ghost use Rattle.av_walk.specs.Looks.{AreAll, ending_of};
 ghost use Rattle.av_walk.specs.Walk.{Literal};
 ghost use Rattle.av_walk.specs.Paths.{asked_of, left_of};
-ghost use Rattle.av_walk.specs.Ends.{IsPlanned, Advances, CanAdvance, IsEnd, Takes, Gives};
+ghost use Rattle.av_walk.specs.Ends.{IsPlanned, Advances, CanAdvance, IsEndOf, Takes, GivesEnd};
 
 use crate::literals::terms_of;
 use crate::looking::{Kind, Look, State, look_at};
@@ -121,7 +121,7 @@ impl<'a> Leaves<'a> {
 
     /// How the next leaf ends; a bare one with its cell. After `Memory` the walk has ended.
     pub fn next(&mut self) -> Option<Result<CellEnd, Memory>>
-        ensures { Gives result self.old self.new }
+        ensures { GivesEnd result self.old self.new }
     {
         let path = self.path.take();
         match find(
@@ -181,7 +181,7 @@ fn plan_of(alloc: Global, system: &System, equation: &Equation, root: &Perm) -> 
 // The end of a cell with these rows.
 fn end_of(alloc: Global, kind: Kind, table: &Table, rows: &[Row]) -> Result<CellEnd, Memory>
     requires { (i : ℕ) → i < length rows.now → length (get_or rows.now i []) ≡ length table.now }
-    ensures { IfOk result (λ end. IsEnd end (record { cell = box_of table.now rows.now; ending = ending_of kind })) }
+    ensures { IfOk result (λ end. IsEndOf end (record { cell = box_of table.now rows.now; ending = ending_of kind })) }
 {
     match kind {
         Kind::Good => Ok(CellEnd::Good),

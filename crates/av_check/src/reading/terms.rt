@@ -2,7 +2,7 @@
 ghost use Rattle.std.specs.Prelude.{◌<◌, [], ◌∷◌, ◌++◌, codes, map, IfOk};
 ghost use Rattle.av_sys.specs.Terms.{IsTermOf};
 ghost use Rattle.av_print.specs.Systems.{number_text, children_text, term_text};
-ghost use Rattle.av_check.specs.Reading.{Reads, AreNumbers, AreChildren, IsNode, root_part, children_part, AreTermsOf, AreSomeTerms, barred_tokens, terms_tokens};
+ghost use Rattle.av_check.specs.Reading.{Reads, AreNumbers, AreChildren, IsNodeTerm, root_part, children_part, AreTermsOf, AreSomeTerms, barred_tokens, terms_tokens};
 
 use crate::reading::numbers::equation_number;
 use crate::reading::pieces::{before, cut_at, is, is_none};
@@ -38,7 +38,7 @@ fn children_of(alloc: Global, text: &[u8], count: u32) -> Result<Option<Children
 /// The node whose root and children have these texts.
 fn node_of(alloc: Global, root: &[u8], children: &[u8], count: u32) -> Result<Option<Term>, Memory>
     requires { 0 < count }
-    ensures { IfOk result (Reads (IsNode count) (λ t. root_part t ∷ children_part t ∷ []) (root.now ∷ children.now ∷ [])) }
+    ensures { IfOk result (Reads (IsNodeTerm count) (λ t. root_part t ∷ children_part t ∷ []) (root.now ∷ children.now ∷ [])) }
 {
     let Some(root) = root_of(root) else {
         return Ok(None);
@@ -56,7 +56,7 @@ fn node_of(alloc: Global, root: &[u8], children: &[u8], count: u32) -> Result<Op
 /// The node of the two pieces at the opening bracket: its root, and its children before the closing one.
 fn opened(alloc: Global, pieces: &[&[u8]], count: u32) -> Result<Option<Term>, Memory>
     requires { 0 < count }
-    ensures { IfOk result (Reads (IsNode count) (λ t. root_part t ∷ (children_part t ++ codes "]") ∷ []) (map (λ p. p.now) pieces.now)) }
+    ensures { IfOk result (Reads (IsNodeTerm count) (λ t. root_part t ∷ (children_part t ++ codes "]") ∷ []) (map (λ p. p.now) pieces.now)) }
 {
     let [root, rest] = pieces else {
         return Ok(None);

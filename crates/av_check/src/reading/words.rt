@@ -4,7 +4,8 @@ ghost use Rattle.std.specs.List.{list_all};
 ghost use Rattle.std.specs.Char.{is_ascii_digit};
 ghost use Rattle.av_sys.specs.Terms.{IsSystemRoot};
 ghost use Rattle.av_print.specs.Text.{word_text, root_text};
-ghost use Rattle.av_check.specs.Claims.{IsPattern, ArePatterns};
+ghost use Rattle.av_text.specs.Ranges.{IsPattern};
+ghost use Rattle.av_check.specs.Claims.{ArePatterns};
 ghost use Rattle.av_check.specs.Reading.{Reads, list_tokens};
 
 use crate::reading::pieces::{after, before, is_none};

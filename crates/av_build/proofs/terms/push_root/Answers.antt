@@ -6,7 +6,7 @@ use Rattle.av_perm.proofs.PermWords.{perms_words}
 use Rattle.av_sys.specs.declared.names.Name.{Name}
 use Rattle.av_sys.specs.declared.terms.Term.{Term}
 use Rattle.av_split.specs.Boxes.{Box}
-use Rattle.av_split.specs.Walk.{Gives}
+use Rattle.av_split.specs.Walk.{GivesBox}
 use Rattle.av_split.proofs.WordSplit.{box_fine}
 use Rattle.av_build.specs.Drafts.{Draft, root_drafts}
 use Rattle.av_build.specs.Adding.{box_draft}
@@ -24,8 +24,8 @@ loop-found-init c = record {
 }
 
 -- the box that a walk gives
-taken : (r : Result Box Memory) (b : Box) (before after : List Box) → r ≡ Ok b → Gives (Some r) before after → before ≡ b ∷ after
-taken r b before after e g = subst (λ s. Gives (Some s) before after) e g
+taken : (r : Result Box Memory) (b : Box) (before after : List Box) → r ≡ Ok b → GivesBox (Some r) before after → before ≡ b ∷ after
+taken r b before after e g = subst (λ s. GivesBox (Some s) before after) e g
 
 pub push_term-requires : goal.push_term-requires
 push_term-requires c =

@@ -1,7 +1,7 @@
 -- There are so few words that a count of them fits.
 use Rattle.std.proofs.Common.{arith}
 use Rattle.av_perm.specs.Simple.{is_simple}
-use Rattle.av_perm.proofs.LexOrder.{count_fits}
+use Rattle.av_perm.proofs.FewWords.{count_fits}
 use Rattle.av_perm.proofs.known_values.count_simple.Goals as goal
 
 pub overflow_add-count : goal.overflow_add-count

@@ -1,6 +1,6 @@
 -- The entries from `start` on fall to the end, and still do with a greater entry before them.
 use Rattle.std.proofs.Common.{◌-◌, arith, length}
-use Rattle.av_perm.proofs.LexOrder.{descends_last, descends_more}
+use Rattle.av_perm.proofs.DescentTests.{descends_last, descends_more}
 use Rattle.av_perm.proofs.lex.last_descent.Goals as goal
 
 pub loop-start-init : goal.loop-start-init

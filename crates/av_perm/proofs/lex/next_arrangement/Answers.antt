@@ -7,7 +7,9 @@ use Rattle.std.proofs.lemmas.List.Sorted.{IsPermutation-trans, IsPermutation-app
 use borrow.Rule.Slice.PartMut.{put_mid}
 use Rattle.av_perm.specs.Word.{is_distinct}
 use Rattle.av_perm.specs.LexOrder.{from_on, descends, are_below}
-use Rattle.av_perm.proofs.LexOrder.{Falls, Below, from_last, falls_of, below_of, next_one}
+use Rattle.av_perm.proofs.Monotone.{Falls, Below}
+use Rattle.av_perm.proofs.LexOrder.{from_last, next_one}
+use Rattle.av_perm.proofs.DescentTests.{falls_of, below_of}
 use Rattle.av_perm.proofs.PermWords.{distinct_apart}
 use Rattle.av_perm.proofs.lex.next_arrangement.Goals as goal
 

@@ -1,6 +1,6 @@
 -- The words that were read are those of the tokens gone over.
 use Rattle.av_print.specs.Text.{word_text}
-use Rattle.av_check.specs.Claims.{IsPattern}
+use Rattle.av_text.specs.Ranges.{IsPattern}
 use Rattle.av_check.proofs.Loops.{HaveRead}
 use Rattle.av_check.proofs.reading.words.each_word.Given as goal
 

@@ -5,7 +5,7 @@ use Rattle.av_perm.specs.Relations.{at, points_below, joined}
 use Rattle.av_perm.proofs.InflationSteps.{raise_few}
 use Rattle.av_decomp.specs.RootTrees.{RootTree}
 use Rattle.av_decomp.specs.Trees.{value}
-use Rattle.av_decomp.proofs.FormedTrees.{IsNode, node_of, nodes_less, value_at, lifted, lifted_room, lifted_more, lifted_end}
+use Rattle.av_decomp.proofs.FormedTrees.{IsRootedTree, node_of, nodes_less, value_at, lifted, lifted_room, lifted_more, lifted_end}
 use Rattle.av_decomp.proofs.trees.DecTree.+push_value.Goals as goal
 
 pub raise_of-lower-requires-clause-count : goal.raise_of-lower-requires-clause-count
@@ -24,14 +24,14 @@ index-requires t c =
     omega (arith, n.count, ap (λ (ts : List RootTree). length ts) c.deref.ensures.value, c.deref.ensures.len, c.len-i-end.ensures.value, c.loop-i-test.true)
 
 -- the block is raised by what lies below it, and finds room
-raise_room : (π : List ℕ) (ts : List RootTree) (now : RootTree) (i lower : ℕ) (s : RootTree) → IsNode π ts now → i < length π → lower ≡ points_below (at π i) π (map value ts) → s ≡ get_or ts i s
+raise_room : (π : List ℕ) (ts : List RootTree) (now : RootTree) (i lower : ℕ) (s : RootTree) → IsRootedTree π ts now → i < length π → lower ≡ points_below (at π i) π (map value ts) → s ≡ get_or ts i s
     → lower + length (value s) ≤ length (value now)
 raise_room π ts now i lower s n h e q =
     let m = length-map ts value in
     let v = ap (λ (l : List ℕ). length l) (value_at ts i s (omega (arith, n.count)) q) in
     omega (arith, raise_few π (map value ts) i h (omega (arith, n.count, m)), n.long, e, v)
 
-place_room : (π : List ℕ) (ts : List RootTree) (now : RootTree) (o i : ℕ) (start old : List ℕ) (s : RootTree) → IsNode π ts now → i < length π → old ≡ start ++ joined (lifted o π (map value ts)) i → s ≡ get_or ts i s
+place_room : (π : List ℕ) (ts : List RootTree) (now : RootTree) (o i : ℕ) (start old : List ℕ) (s : RootTree) → IsRootedTree π ts now → i < length π → old ≡ start ++ joined (lifted o π (map value ts)) i → s ≡ get_or ts i s
     → length old + length (value s) ≤ length start + length (value now)
 place_room π ts now o i start old s n h e q =
     let m = length-map ts value in

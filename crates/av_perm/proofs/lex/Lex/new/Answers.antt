@@ -1,9 +1,9 @@
 -- The entries are 1, 2, .., n, from which on there are all words.
 use Rattle.std.proofs.Common.{◌≡◌, ap, sym, ◌∙◌, arith, add-one, one-add, length, lit<}
 use Rattle.av_perm.specs.Lists.{counting}
-use Rattle.av_perm.proofs.LexOrder.{from_counting, counting_more}
+use Rattle.av_perm.proofs.LexOrder.{from_counting}
 use Rattle.av_perm.proofs.PermWords.{counting_perm}
-use Rattle.av_perm.proofs.RisingLists.{length_counting}
+use Rattle.av_perm.proofs.RisingLists.{length_counting, counting_more}
 use Rattle.av_perm.proofs.lex.Lex.new.Goals as goal
 
 pub push-requires : goal.push-requires
