@@ -216,6 +216,67 @@ fn put_drawn_statistic<K: Sink>(
     }
 }
 
+/// Writes the answer of a query about members of the class, with their numbers up to the length that it needs.
+#[tactic(auto, unfolding(crate::specs::Answers::answer_text))]
+fn put_by_table<K: Sink>(
+    alloc: Global,
+    sink: &mut K,
+    waiting: &mut SureSink,
+    class: &SettledClass,
+    table: &Table,
+    query: &Query,
+) -> Result<(), Stop>
+    requires range { IsInRange query.now }
+    requires stands { table.now.system ≡ class.now.system }
+    requires some { 1 ≤ length_needed query.now }
+    requires most { length_needed query.now ≤ table.now.largest }
+    ensures whole { OnOk result (PassesOn (K.held sink.old) (K.held sink.new) (waiting.old.held ++ answer_text class.now query.now) waiting.new.held) }
+    ensures part { AppendsPart (K.held sink.old) (K.held sink.new) (waiting.old.held ++ answer_text class.now query.now) }
+    ensures later { K.faults sink.old ≤ K.faults sink.new }
+    ensures failed { IsErrOf result Stop.WriteFault → Rose (K.faults sink.old) (K.faults sink.new) }
+{
+    match query {
+        Query::Count { n } => {
+            let count = member_count(table, usize::from(*n));
+            put_line(sink, waiting, query, &count)
+        }
+        Query::Counts { n } => {
+            put_all_counts(sink, waiting, class, table, query, usize::from(*n))
+        }
+        Query::List { n, start, many } => {
+            let n = usize::from(*n);
+            put_list(alloc, sink, waiting, class, table, query, n, *start, *many)
+        }
+        Query::Unrank { n, r } => {
+            let word = word_at(class, table, usize::from(*n), *r);
+            put_line(sink, waiting, query, &word)
+        }
+        Query::Rank { word } => put_line(sink, waiting, query, &place_of(class, table, word)),
+        Query::Draw { n, seed, many } => {
+            let n = usize::from(*n);
+            put_draws(sink, waiting, class, table, query, n, *seed, *many)
+        }
+        Query::DrawStat {
+            kind,
+            n,
+            seed,
+            many,
+        } => {
+            let n = usize::from(*n);
+            put_drawn_statistic(sink, waiting, class, table, query, *kind, n, *seed, *many)
+        }
+        Query::Stat { kind, n } => {
+            let bars = histogram_of(alloc, class, table, *kind, usize::from(*n))?;
+            put_line(sink, waiting, query, &bars)
+        }
+        Query::Pick { kind, value, n } => {
+            let n = usize::from(*n);
+            put_pick(alloc, sink, waiting, class, table, query, *kind, *value, n)
+        }
+        Query::Tree { .. } | Query::Dist { .. } => unreachable!(),
+    }
+}
+
 /// Writes the answer of a query about a settled class, with a table that serves it.
 #[tactic(auto, unfolding(crate::specs::Answers::answer_text))]
 fn put_answer<K: Sink>(
@@ -234,75 +295,14 @@ fn put_answer<K: Sink>(
     ensures failed { IsErrOf result Stop.WriteFault → Rose (K.faults sink.old) (K.faults sink.new) }
 {
     match query {
-        Query::Count { n } => {
-            let n = usize::from(*n);
-            put_line(
-                sink,
-                waiting,
-                query,
-                &member_count(needed(class, table, n), n),
-            )
-        }
-        Query::Counts { n } => {
-            let n = usize::from(*n);
-            put_all_counts(sink, waiting, class, needed(class, table, n), query, n)
-        }
-        Query::List { n, start, many } => {
-            let n = usize::from(*n);
-            put_list(
-                alloc,
-                sink,
-                waiting,
-                class,
-                needed(class, table, n),
-                query,
-                n,
-                *start,
-                *many,
-            )
-        }
-        Query::Unrank { n, r } => {
-            let n = usize::from(*n);
-            put_line(
-                sink,
-                waiting,
-                query,
-                &word_at(class, needed(class, table, n), n, *r),
-            )
-        }
-        Query::Rank { word } => {
-            let table = needed(class, table, word.len());
-            put_line(sink, waiting, query, &place_of(class, table, word))
-        }
         Query::Tree { word } => put_line(sink, waiting, query, &tree(alloc, word)?),
-        Query::Draw { n, seed, many } => {
-            let n = usize::from(*n);
-            let table = needed(class, table, n);
-            put_draws(sink, waiting, class, table, query, n, *seed, *many)
-        }
-        Query::DrawStat {
-            kind,
-            n,
-            seed,
-            many,
-        } => {
-            let n = usize::from(*n);
-            let table = needed(class, table, n);
-            put_drawn_statistic(sink, waiting, class, table, query, *kind, n, *seed, *many)
-        }
-        Query::Stat { kind, n } => {
-            let n = usize::from(*n);
-            let bars = histogram_of(alloc, class, needed(class, table, n), *kind, n)?;
-            put_line(sink, waiting, query, &bars)
-        }
-        Query::Pick { kind, value, n } => {
-            let n = usize::from(*n);
-            let table = needed(class, table, n);
-            put_pick(alloc, sink, waiting, class, table, query, *kind, *value, n)
-        }
         Query::Dist { kind, n } => {
             let bars = distribution_of(alloc, class, *kind, usize::from(*n))?;
             put_line(sink, waiting, query, &bars)
+        }
+        _ => {
+            let table = needed(class, table, length_needed(query));
+            put_by_table(alloc, sink, waiting, class, table, query)
         }
     }
 }

@@ -92,6 +92,17 @@ fn canonical_texts_of_queries(rt: HostRuntime) -> Result<(), Fail> {
     )?;
     put_line(&mut sink, Query::Rank { word: some.copy() })?;
     put_line(&mut sink, Query::Tree { word: some })?;
+    assert_eq!(rt;
+        sink.bytes(),
+        &b"count 7\ncounts 160\nlist 5 from 2 for 1000000\n\
+           unrank 10 340282366920938463463374607431768211455\nrank 213\ntree 213\n"[..]
+    );
+    Ok(())
+}
+
+#[test]
+fn canonical_texts_of_draws_and_statistics(rt: HostRuntime) -> Result<(), Fail> {
+    let mut sink = SureSink::new(rt.alloc());
     put_line(
         &mut sink,
         Query::Draw {
@@ -133,9 +144,7 @@ fn canonical_texts_of_queries(rt: HostRuntime) -> Result<(), Fail> {
     )?;
     assert_eq!(rt;
         sink.bytes(),
-        &b"count 7\ncounts 160\nlist 5 from 2 for 1000000\n\
-           unrank 10 340282366920938463463374607431768211455\nrank 213\ntree 213\n\
-           draw 3 18446744073709551615 2\ndrawstat lrm 160 0 100000\nstat inv 12\npick des 12720 1\n\
+        &b"draw 3 18446744073709551615 2\ndrawstat lrm 160 0 100000\nstat inv 12\npick des 12720 1\n\
            dist inv 24\n"[..]
     );
     Ok(())
