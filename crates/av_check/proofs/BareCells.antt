@@ -1,6 +1,6 @@
 -- The names of the children of a bare leaf: their canonical systems can be grown.
 use Rattle.std.proofs.Common.{◌≡◌, ℕ, suc, ◌<◌, ◌≤◌, ◌⊎◌, inl, inr, true, false, not, ◌||◌, List, [], ◌∷◌, map, length, replicate, refl, sym, ap, ◌∙◌, subst, arith}
-use Rattle.std.specs.List.{flat_map, list_any}
+use Rattle.std.specs.List.{list_any}
 use Rattle.std.specs.Cmp.Lexicographic.{pointwise}
 use Rattle.std.proofs.lemmas.Bool.{cases_Bool, or_parts}
 use Rattle.av_perm.specs.declared.limits.TheConstants.{MAX_PATTERN_LENGTH}
@@ -9,7 +9,7 @@ use Rattle.av_perm.specs.Lists.{same}
 use Rattle.av_perm.specs.Contain.{contains}
 use Rattle.av_perm.specs.Class.{minimal, top}
 use Rattle.av_perm.specs.Relations.{IsWord, pattern_of}
-use Rattle.av_perm.proofs.Membership.{Each, In_joined, In_append_cases, In_map, In_flat_map, each_all, all_each}
+use Rattle.av_perm.proofs.Membership.{Each, In_joined, In_append_cases, each_all, all_each}
 use Rattle.av_perm.proofs.Containment.{contains_trans}
 use Rattle.av_perm.proofs.Occurrences.{contains_from}
 use Rattle.av_perm.proofs.Patterns.{length_pattern}
@@ -20,7 +20,8 @@ use Rattle.av_sys.specs.declared.names.Name.{Name}
 use Rattle.av_name.specs.Constraints.{free}
 use Rattle.av_split.specs.Split.{Demand, questions_of}
 use Rattle.av_split.specs.Boxes.{Question, Box, child_of, word_rules, ask, questions, demands}
-use Rattle.av_split.proofs.WordSplit.{done_child_avoids, start_fine, In_ask, demands_each, demands_apt}
+use Rattle.av_split.proofs.WordDemands.{In_ask, demands_each, demands_apt}
+use Rattle.av_split.proofs.WordSplit.{done_child_avoids, start_fine}
 use Rattle.av_split.proofs.BoxWords.{FineWith, AptWith, words_law, start_words, fibre_short}
 use Rattle.av_build.specs.Drafts.{child_names}
 use Rattle.av_build.specs.Canonical.{is_void}
@@ -33,10 +34,10 @@ use Rattle.av_check.specs.Verdicts.{leaves_class, is_wrong_name}
 use Rattle.av_check.specs.Laws.{IsWordName}
 use Rattle.av_check.specs.Checks.{AreShort, IsShortName}
 use Rattle.av_check.specs.Outcomes.{IsGrowable}
-use Rattle.av_check.proofs.CellTreatments.{questions_in, IsFair}
+use Rattle.av_check.proofs.CellTreatments.{IsFair}
 use Rattle.av_check.proofs.GenericWalk.{walk_leaf}
 use Rattle.av_check.proofs.NameLiterals.{child_each, literals_apt}
-use Rattle.av_check.proofs.RootLeaves.{settled}
+use Rattle.av_check.proofs.RootLeaves.{all_questions, settled}
 use Rattle.av_check.proofs.RightNames.{not_misnamed}
 use Rattle.av_check.proofs.TidyNames.{top_same}
 
@@ -98,18 +99,10 @@ module _ (π : List ℕ) (n : Name) (nss : List (List Name)) (w : IsWord π) (ow
   ]
 
   all_short : Each (AptWith Short (length π)) (questions_with ds ts)
-  all_short q i = elim (In_append_cases (questions_of ds) (flat_map (questions_in {Q = Question}) ts) q i) [
-    | inl j ↦ own_short q j
-    | inr j ↦
-        let r = In_flat_map (questions_in {Q = Question}) ts q j in
-        let s = In_map (literals 0) nss r.0 r.1 in
-        let l = In_map (λ (l : Literal Question). l.question) r.0 q r.2 in
-        let k = subst (In l.0) s.2 l.1 in
-        subst (AptWith Short (length π)) (sym l.2) (record {
-          apt = literals_apt (length π) 0 s.0 (let e = sized s.0 s.1 in omega arith) (words s.0 s.1) l.0 k;
-          word = literals_short 0 s.0 (shorts s.0 s.1) l.0 k;
-        })
-  ]
+  all_short = all_questions (AptWith Short (length π)) ds nss own_short (λ ns j l k. record {
+    apt = literals_apt (length π) 0 ns (let e = sized ns j in omega arith) (words ns j) l k;
+    word = literals_short 0 ns (shorts ns j) l k;
+  })
 
   -- so have the constraints of each leaf
   leaf_short : (l : Leaf Box) → In l (leaves π n nss) → FineWith Short (length π) l.cell

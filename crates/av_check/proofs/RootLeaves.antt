@@ -12,8 +12,11 @@ use Rattle.av_name.specs.declared.constraints.Known.TheVariants.{Inside}
 use Rattle.av_name.specs.Constraints.{free}
 use Rattle.av_split.specs.Split.{Demand, demands_known, questions_of}
 use Rattle.av_split.specs.Boxes.{Question, Box, word_rules, demands}
-use Rattle.av_split.proofs.GenericSplit.{Met, Says, Apart, demands_say}
-use Rattle.av_split.proofs.WordSplit.{Fine, Apt, Lies, Holds, word_law, word_meant, demands_apt, start_fine, met_meets, free_lies}
+use Rattle.av_split.proofs.KnownFacts.{Met, Says, demands_say}
+use Rattle.av_split.proofs.GenericSplit.{Apart}
+use Rattle.av_split.proofs.WordRules.{Fine, Apt, Lies, Holds, word_law, word_meant}
+use Rattle.av_split.proofs.WordDemands.{demands_apt, met_meets}
+use Rattle.av_split.proofs.WordSplit.{start_fine, free_lies}
 use Rattle.av_build.proofs.DraftsApart.{apart_same}
 use Rattle.av_walk.specs.Walk.{Literal, term_known, bare, Leaf}
 use Rattle.av_walk.specs.Leaves.{literals, leaves}
@@ -30,6 +33,18 @@ apart_back P R f (x ∷ xs) h a = (
   λ y i p q. a.0 (f y) (map_In f xs y i) (h x (inl refl) p) (h y (inr i) q),
   apart_back P R f xs (λ y i. h y (inr i)) a.1,
 )
+
+-- what holds of the questions of a name and of those of terms holds of all questions
+pub all_questions : (P : Question → Type 0) (ds : List (Demand Question)) (nss : List (List Name)) → Each P (questions_of ds)
+    → ((ns : List Name) → In ns nss → Each (λ (l : Literal Question). P l.question) (literals 0 ns)) → Each P (questions_with ds (map (literals 0) nss))
+all_questions P ds nss own terms q i = elim (In_append_cases (questions_of ds) (flat_map (questions_in {Q = Question}) (map (literals 0) nss)) q i) [
+  | inl j ↦ own q j
+  | inr j ↦
+      let r = In_flat_map (questions_in {Q = Question}) (map (literals 0) nss) q j in
+      let s = In_map (literals 0) nss r.0 r.1 in
+      let l = In_map (λ (l : Literal Question). l.question) r.0 q r.2 in
+      subst P (sym l.2) (terms s.0 s.1 l.0 (subst (In l.0) s.2 l.1))
+]
 
 module _ (π : List ℕ) (n : Name) (nss : List (List Name)) (w : IsWord π) (own : IsWordName n) (sized : Each (λ ns. length ns ≡ length π) nss) (words : Each (λ ns. Each IsWordName ns) nss) where
   abbrev ds : List (Demand Question)
@@ -49,14 +64,7 @@ module _ (π : List ℕ) (n : Name) (nss : List (List Name)) (w : IsWord π) (ow
   term_apt ns i = literals_apt (length π) 0 ns (let e = sized ns i in omega arith) (words ns i)
 
   all_apt : Each (Apt (length π)) (questions_with ds ts)
-  all_apt q i = elim (In_append_cases (questions_of ds) (flat_map (questions_in {Q = Question}) ts) q i) [
-    | inl j ↦ own_apt q j
-    | inr j ↦
-        let r = In_flat_map (questions_in {Q = Question}) ts q j in
-        let s = In_map (literals 0) nss r.0 r.1 in
-        let l = In_map (λ (l : Literal Question). l.question) r.0 q r.2 in
-        subst (Apt (length π)) (sym l.2) (term_apt s.0 s.1 l.0 (subst (In l.0) s.2 l.1))
-  ]
+  all_apt = all_questions (Apt (length π)) ds nss own_apt term_apt
 
   -- what is so of each leaf: its cell is fine
   each_leaf : Each (IsLeaf word_rules (Fine (length π)) (Apt (length π)) (word_law (length π)) ds ts all_apt) (leaves π n nss)

@@ -1,6 +1,6 @@
 -- The words of an equation by their places: the term, the choices for its children, and the inflation.
 use Rattle.std.proofs.Common.{◌≡◌, ◌≢◌, ℕ, zero, suc, ◌+◌, ◌*◌, ◌-◌, ◌<◌, ◌≤◌, Bool, true, false, ◌==◌, cond, List, [], ◌∷◌, ◌++◌, length, flat_map, drop, refl, sym, ◌∙◌, ap, ap₂, subst, arith, get_or, length-append, Option, Some, ◌⊎◌, inl, inr, nat_lt}
-use Rattle.std.proofs.lemmas.Bool.{ltb-true}
+use Rattle.std.proofs.lemmas.Bool.{lt-ltb, ltb-true}
 use Rattle.av_perm.specs.Lists.{counting}
 use Rattle.av_perm.specs.Inflate.{points_below, raised, joined, inflate}
 use Rattle.av_perm.proofs.Inflations.{length_inflate, lengths_sum}
@@ -163,6 +163,18 @@ pub node_member : (S : System) (n left q u t : ℕ) (root cs : List ℕ) (ps : L
     → get_or (term_words S n (term_at S u t)) left [] ≡ inflate root (picked (members_at S) cs ps)
 node_member S n left q u t root cs ps e lt ch =
     ap (λ z. get_or (term_words S n z) left []) e ∙ node_entry S n left q root cs ps (subst (λ z. left < term_ways S n z) e lt) ch
+
+-- a smaller entry counts
+pub smaller_counts : (x p s : ℕ) → x < p → s ≡ cond {A = ℕ} (nat_lt x p) s 0
+smaller_counts x p s lt = let e : nat_lt x p ≡ true = lt-ltb x p lt in rw e refl
+
+-- another one does not
+pub other_uncounted : (x p s : ℕ) → p ≤ x → 0 ≡ cond {A = ℕ} (nat_lt x p) s 0
+other_uncounted x p s le = by (nat_lt x p) refl
+  where
+    by : (b : Bool) → nat_lt x p ≡ b → 0 ≡ cond {A = ℕ} b s 0
+    by true e = absurd (let m = ltb-true x p e in omega arith)
+    by false e = refl
 
 -- the sizes below an entry so far
 pub lower_next : (p sum s j whole : ℕ) (root : List ℕ) (ps : List Pick) (d : Pick) → j < length root → j < length ps
