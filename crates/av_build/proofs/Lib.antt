@@ -16,6 +16,7 @@ pub mod ChildNumbers
 pub mod NameEquations
 pub mod DraftMeanings
 pub mod DraftsApart
+pub mod TermShapes
 pub mod TermLaws
 pub mod NameSystems
 pub mod ExactAlways

@@ -27,7 +27,8 @@ use Rattle.av_build.proofs.Growing.{Canonical, canonical, NameAt}
 use Rattle.av_build.proofs.DraftMeanings.{BlocksMean, HasShape, IsRootDraft, root_draft_is, names_count, draft_root, node_sound, point_sound, some_shape}
 use Rattle.av_build.proofs.DraftsApart.{apart_same, drafts_apart}
 use Rattle.av_sys.proofs.Subtrees.{IsEquation, equation_term}
-use Rattle.av_build.proofs.TermLaws.{MeanAt, HasTermShape, IsTermAt, IsServed, AreSoundTerms, mean_at_blocks, at_means, means_at, term_equation, child_shorter, right_up_to}
+use Rattle.av_build.proofs.TermShapes.{MeanAt, HasTermShape, IsTermAt, IsServed, AreSoundTerms, mean_at_blocks, at_means, means_at, term_equation, child_shorter}
+use Rattle.av_build.proofs.TermLaws.{right_up_to}
 
 -- words that mean the equations of numbers mean their names
 blocks_mean : (S : System) (cs : List ℕ) (ns : List Name) (αs : List (List ℕ)) → Numbered (NameAt S) cs ns → MeanAt S cs αs → BlocksMean ns αs

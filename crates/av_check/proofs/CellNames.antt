@@ -20,7 +20,7 @@ use Rattle.av_build.specs.Drafts.{name_of, child_names}
 use Rattle.av_build.specs.Canonical.{same_sign}
 use Rattle.av_build.specs.Laws.{IsNameOver}
 use Rattle.av_build.proofs.NameNumbers.{sign_equal}
-use Rattle.av_build.proofs.TermLaws.{MeanAt}
+use Rattle.av_build.proofs.TermShapes.{MeanAt}
 use Rattle.av_walk.specs.Leaves.{name_of_equation, names_at}
 use Rattle.av_check.specs.declared.verdict.Flaw.TheVariants.{Lost, Large}
 use Rattle.av_check.specs.Verdicts.{are_signed, is_dead, is_large, bare_flaw}

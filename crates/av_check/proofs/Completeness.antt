@@ -16,7 +16,8 @@ use Rattle.av_sys.proofs.Subtrees.{IsEquation}
 use Rattle.av_name.specs.Constraints.{free}
 use Rattle.av_split.specs.Split.{Demand}
 use Rattle.av_split.specs.Boxes.{Question, Box, word_rules, demands, boxes}
-use Rattle.av_split.proofs.WordSplit.{Apt, demands_apt}
+use Rattle.av_split.proofs.WordRules.{Apt}
+use Rattle.av_split.proofs.WordDemands.{demands_apt}
 use Rattle.av_build.specs.Drafts.{child_names}
 use Rattle.av_build.specs.Canonical.{same_name, grow_from, grown_size, as_system}
 use Rattle.av_build.proofs.NameNumbers.{name_refl}

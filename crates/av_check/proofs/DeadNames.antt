@@ -20,7 +20,8 @@ use Rattle.av_build.proofs.TermsStand.{Stands}
 use Rattle.av_build.proofs.Growing.{Canonical, canonical, NameAt}
 use Rattle.av_build.proofs.DraftMeanings.{some_shape}
 use Rattle.av_build.proofs.AliveMarks.{tree_alive}
-use Rattle.av_build.proofs.TermLaws.{HasTermShape, IsTermAt, IsServed, means_at, reached}
+use Rattle.av_build.proofs.TermShapes.{HasTermShape, IsTermAt, IsServed, means_at}
+use Rattle.av_build.proofs.TermLaws.{reached}
 use Rattle.av_build.proofs.NameSystems.{fits_term}
 use Rattle.av_check.specs.Verdicts.{is_dead}
 use Rattle.av_check.specs.Laws.{HoldsAllSimples}

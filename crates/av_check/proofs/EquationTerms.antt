@@ -34,7 +34,7 @@ use Rattle.av_build.proofs.Growing.{In_get}
 use Rattle.av_build.proofs.NameEquations.{decomposed_word, root_is_word, root_splits, equation_law}
 use Rattle.av_build.proofs.DraftMeanings.{point_listed, point_sound, point_complete}
 use Rattle.av_build.proofs.DraftsApart.{apart_same}
-use Rattle.av_build.proofs.TermLaws.{MeanAt, HasTermShape, IsTermAt, AreSoundTerms, AreWholeTerms, mean_at_blocks, means_at, term_equation}
+use Rattle.av_build.proofs.TermShapes.{MeanAt, HasTermShape, IsTermAt, AreSoundTerms, AreWholeTerms, mean_at_blocks, means_at, term_equation}
 use Rattle.av_walk.specs.Walk.{Ending, good, bare, twice, extra, Leaf}
 use Rattle.av_walk.specs.Leaves.{name_of_equation, names_at, names_of_root}
 use Rattle.av_check.specs.declared.verdict.Flaw.TheVariants.{Twice, Extra}

@@ -10,7 +10,7 @@ use Rattle.av_sys.specs.declared.terms.Term.{Term}
 use Rattle.av_sys.specs.declared.terms.Term.TheVariants.{Point, Node}
 use Rattle.av_sys.specs.declared.terms.System.{System}
 use Rattle.av_split.proofs.GenericSplit.{Apart}
-use Rattle.av_build.proofs.TermLaws.{MeanAt}
+use Rattle.av_build.proofs.TermShapes.{MeanAt}
 use Rattle.av_walk.specs.Leaves.{names_at, names_of_root}
 use Rattle.av_check.specs.Verdicts.{count_points}
 use Rattle.av_check.proofs.NameLiterals.{Covers, mean_covers}

@@ -12,9 +12,9 @@ use Rattle.av_sys.specs.Names.{Meets}
 use Rattle.av_sys.specs.Exact.{MeansOf}
 use Rattle.av_name.specs.declared.constraints.Known.TheVariants.{Inside, Outside}
 use Rattle.av_split.specs.Boxes.{Question, Box, word_rules}
-use Rattle.av_split.proofs.GenericSplit.{MetIf, turned_says, each_inside, one_outside}
-use Rattle.av_split.proofs.WordSplit.{Fine, Apt, Lies, Holds, word_meant}
-use Rattle.av_build.proofs.TermLaws.{MeanAt}
+use Rattle.av_split.proofs.KnownFacts.{MetIf, turned_says, each_inside, one_outside}
+use Rattle.av_split.proofs.WordRules.{Fine, Apt, Lies, Holds, word_meant}
+use Rattle.av_build.proofs.TermShapes.{MeanAt}
 use Rattle.av_walk.specs.Walk.{Literal, literal_known, term_known}
 use Rattle.av_walk.specs.Leaves.{asks, child_literals, literals, name_of_equation, names_at}
 use Rattle.av_check.specs.Laws.{IsWordName}

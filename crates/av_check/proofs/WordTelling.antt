@@ -19,9 +19,11 @@ use Rattle.av_split.specs.Split.{both, turned, all_of}
 use Rattle.av_split.specs.Boxes.{Question, Box, child_of, added, word_rules}
 use Rattle.av_split.specs.Marks.{once, side}
 use Rattle.av_split.specs.Laws.{IsTidy}
-use Rattle.av_split.proofs.GenericSplit.{Lawful, one_outside}
-use Rattle.av_split.proofs.WordSplit.{stands, added_known, Fine, Apt, same_child, changed_child, word_law, start_fine}
-use Rattle.av_split.proofs.Cutting.{outside_one}
+use Rattle.av_split.proofs.KnownFacts.{one_outside}
+use Rattle.av_split.proofs.GenericSplit.{Lawful}
+use Rattle.av_split.proofs.WordRules.{stands, added_known, Fine, Apt, same_child, changed_child, word_law}
+use Rattle.av_split.proofs.WordSplit.{start_fine}
+use Rattle.av_split.proofs.PassedDemands.{outside_one}
 use Rattle.av_build.specs.Drafts.{name_of, child_names}
 use Rattle.av_walk.specs.Walk.{Literal, literal_known}
 use Rattle.av_walk.specs.Leaves.{asks, child_literals, literals}

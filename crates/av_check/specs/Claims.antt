@@ -1,8 +1,6 @@
 -- When a text is a claim, and which of its lines is at fault where it is none.
 use Rattle.std.specs.Prelude.{◌≡◌, ◌⊎◌, ℕ, zero, suc, ◌+◌, ◌<◌, ◌≤◌, List, [], ◌∷◌, ◌++◌, length, Option, Some, None, Result, Ok, Err, codes}
-use Rattle.av_perm.specs.declared.limits.TheConstants.{MAX_PATTERN_LENGTH}
 use Rattle.av_perm.specs.Members.{In}
-use Rattle.av_perm.specs.Relations.{IsWord}
 use Rattle.av_sys.specs.declared.names.Name.{Name}
 use Rattle.av_sys.specs.declared.terms.Equation.{Equation}
 use Rattle.av_sys.specs.declared.terms.System.{System}
@@ -11,6 +9,7 @@ use Rattle.av_text.specs.declared.kind.Kind.{Kind}
 use Rattle.av_text.specs.declared.kind.Kind.TheVariants.{TooLong, BadClaim}
 use Rattle.av_text.specs.declared.limits.TheConstants.{MAX_PATTERNS}
 use Rattle.av_text.specs.Lines.{script_lines}
+use Rattle.av_text.specs.Ranges.{IsPattern}
 use Rattle.av_print.specs.Text.{◌⊹◌, words_text}
 use Rattle.av_print.specs.Systems.{equation_text, terms_count, counts_text}
 use Rattle.av_check.specs.declared.claim.Claim.{Claim}

@@ -1,17 +1,15 @@
 -- The header and the system of a class, as the text of a claim.
-use Rattle.std.proofs.Common.{◌≡◌, inl, inr, ℕ, suc, ◌-◌, ◌≤◌, true, List, [], ◌∷◌, ◌++◌, Option, Some, None, codes, decimal, flat_map, append_assoc, refl, sym, ap, ◌∙◌, arith}
-use Rattle.std.specs.List.{list_all}
+use Rattle.std.proofs.Common.{◌≡◌, ℕ, ◌-◌, ◌≤◌, true, List, ◌++◌, Option, Some, None, codes, decimal, append_assoc, refl, ap, ◌∙◌, arith}
 use Rattle.av_perm.specs.Lists.{counting}
 use Rattle.av_simple.specs.Searched.{Searched, gap_of, last_by, last_of}
 use Rattle.av_print.specs.Text.{◌⊹◌, words_text}
 use Rattle.av_print.specs.Systems.{system_text}
 use Rattle.av_sys.specs.declared.terms.System.{System}
-use Rattle.av_check.specs.declared.claim.Claim.{Claim}
 use Rattle.av_check.specs.ClaimLaws.{Shown, IsShown, IsUnbroken, passed_text, required_text, text_of_claim}
 use Rattle.av_print.proofs.Tokens.{pass_both}
 use Rattle.av_session.specs.declared.subject.United.{United}
 use Rattle.av_session.specs.declared.subject.Subject.{Subject}
-use Rattle.av_session.specs.Due.{level_text, levels_text, union_text, require_text, header_text, settled_header}
+use Rattle.av_session.specs.Due.{levels_text, union_text, require_text, header_text, settled_header}
 use Rattle.av_output.proofs.LineBytes.{stays, none_breaks, decimal_stays, words_stay, HasLevels, levels_begin}
 
 -- the line of the two lists of a union, as a line that is passed over

@@ -1,11 +1,11 @@
 -- The output of a run is a claim, and a check of it says yes.
-use Rattle.std.proofs.Common.{◌≡◌, ◌↔◌, ◌⊎◌, inl, inr, ℕ, zero, suc, ◌≤◌, ◌==◌, if◌then◌else◌, List, [], ◌∷◌, length, true, false, Option, Some, None, Ok, unwrap_or, flat_map, codes, refl, sym, ap, ◌∙◌, subst, arith}
+use Rattle.std.proofs.Common.{◌≡◌, ◌↔◌, ◌⊎◌, inl, inr, ℕ, zero, suc, ◌≤◌, List, [], length, Option, Some, None, unwrap_or, flat_map, refl, sym, ap, ◌∙◌, subst, arith}
 use Rattle.std.specs.Option.{option_map}
 use Rattle.av_perm.specs.declared.limits.TheConstants.{MAX_PATTERN_LENGTH}
 use Rattle.av_perm.specs.Class.{minimal, top}
 use Rattle.av_perm.specs.Gap.{simples_below, IsSettled}
-use Rattle.av_perm.specs.Relations.{IsWord, AreWords, InClass}
-use Rattle.av_perm.specs.Laws.{IsGap, IsLeastGap}
+use Rattle.av_perm.specs.Relations.{AreWords, InClass}
+use Rattle.av_perm.specs.Laws.{IsLeastGap}
 use Rattle.av_perm.proofs.Membership.{Each, all_each}
 use Rattle.av_perm.proofs.MinimalWords.{words_each, minimal_words}
 use Rattle.av_perm.proofs.TopWords.{top_words}
@@ -16,7 +16,6 @@ use Rattle.av_sys.specs.Terms.{IsWellFormed}
 use Rattle.av_simple.specs.Searched.{gap_of}
 use Rattle.av_text.specs.declared.limits.TheConstants.{MAX_PATTERNS}
 use Rattle.av_text.specs.declared.script.Script.{Script}
-use Rattle.av_text.specs.Read.{read}
 use Rattle.av_text.specs.Ranges.{KeepsLimits, required}
 use Rattle.av_text.proofs.Kept.{read_kept}
 use Rattle.av_build.specs.Canonical.{IsCanonical, system_size}
@@ -26,24 +25,21 @@ use Rattle.av_build.proofs.BareSystems.{size_law}
 use Rattle.av_build.proofs.LeanForm.{lean_form_law}
 use Rattle.av_build.proofs.CanonicalForm.{canonical_form_law}
 use Rattle.av_print.specs.Text.{◌⊹◌}
-use Rattle.av_print.specs.Systems.{system_text, terms_count}
 use Rattle.av_check.specs.declared.claim.Claim.{Claim}
-use Rattle.av_check.specs.declared.limits.TheConstants.{MAX_CLAIM_BYTES, MAX_CLAIM_SIZE}
+use Rattle.av_check.specs.declared.limits.TheConstants.{MAX_CLAIM_BYTES}
 use Rattle.av_check.specs.Claims.{IsClaim, ArePatterns}
 use Rattle.av_check.specs.ClaimLaws.{IsWithinLimits, text_of_claim}
 use Rattle.av_check.specs.Verdicts.{words_or_none, required_of}
 use Rattle.av_check.proofs.ClaimTexts.{claim_text_law}
 use Rattle.av_session.specs.declared.options.Options.{Options}
-use Rattle.av_session.specs.declared.solving.Solved.TheVariants.{Settled}
 use Rattle.av_session.specs.declared.subject.Subject.{Subject}
-use Rattle.av_session.specs.Options.{options, IsAllowed}
-use Rattle.av_session.specs.Classes.{Class, in_format}
-use Rattle.av_session.specs.Solved.{basis_of, lists_of, subject_of, solved_script}
-use Rattle.av_session.specs.Due.{settled_header}
+use Rattle.av_session.specs.Options.{IsAllowed}
+use Rattle.av_session.specs.Classes.{Class}
+use Rattle.av_session.specs.Solved.{basis_of}
 use Rattle.av_session.specs.Answers.{answer_text}
 use Rattle.av_session.specs.Runs.{due, HasSystem}
 use Rattle.av_session.proofs.Systems.{basis_kept, tops_of, below_roots, writes_system}
-use Rattle.av_session.proofs.Abouts.{settled_same, reduced_required, basis_are_words, required_are_words}
+use Rattle.av_session.proofs.Abouts.{settled_same, basis_are_words, required_are_words}
 use Rattle.av_session.proofs.AllowedOptions.{options_allowed}
 use Rattle.av_session.proofs.AboutClaims.{about_claim}
 use Rattle.av_output.specs.Output.{claim_of, IsRight, OutputLaw}

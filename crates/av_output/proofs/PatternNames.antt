@@ -1,9 +1,8 @@
 -- The names of a system that was built are names of patterns, and it is no larger than a claim's may be.
-use Rattle.std.proofs.Common.{◌≡◌, inl, inr, ℕ, suc, ◌≤◌, ◌==◌, if◌then◌else◌, List, [], ◌∷◌, ◌++◌, length, map, All, true, Option, Some, None, slice_get, unwrap_or, refl, sym, ap, ◌∙◌, subst, arith}
+use Rattle.std.proofs.Common.{◌≡◌, inl, inr, ℕ, ◌≤◌, ◌==◌, if◌then◌else◌, List, [], ◌∷◌, length, Option, Some, None, slice_get, refl, sym, ap, subst, arith}
 use Rattle.std.specs.Prelude.{sum_by}
 use Rattle.std.proofs.lemmas.Bool.{cases_Bool}
 use Rattle.std.proofs.lemmas.List.Sums.{sum_by-cons}
-use Rattle.std.specs.Option.{option_map}
 use Rattle.av_perm.specs.declared.limits.TheConstants.{MAX_PATTERN_LENGTH}
 use Rattle.av_perm.specs.Members.{In}
 use Rattle.av_perm.specs.Class.{top}
@@ -14,12 +13,11 @@ use Rattle.av_sys.specs.declared.names.Name.{Name}
 use Rattle.av_sys.specs.declared.terms.Term.{Term}
 use Rattle.av_sys.specs.declared.terms.Equation.{Equation}
 use Rattle.av_sys.specs.declared.terms.System.{System}
-use Rattle.av_build.specs.Canonical.{IsCanonical, first_name, grow, equations_of, as_system}
+use Rattle.av_build.specs.Canonical.{IsCanonical, first_name, grow, equations_of}
 use Rattle.av_build.specs.Lean.{name_of, lean_equation, kept, lean}
 use Rattle.av_perm.proofs.ListLaws.{get_In}
 use Rattle.av_build.proofs.ListPlaces.{part_sum}
 use Rattle.av_build.proofs.ShortNames.{IsShortOver, first_short, class_short}
-use Rattle.av_text.specs.Ranges.{IsPattern}
 use Rattle.av_check.specs.Claims.{ArePatterns, IsNamedByPatterns}
 use Rattle.av_session.specs.Classes.{in_format}
 

@@ -1,5 +1,5 @@
 -- The simple words of a class below a length, and the gap of a class.
-use Rattle.std.proofs.Common.{◌≡◌, ℕ, suc, ◌-◌, ◌<◌, ◌≤◌, ◌↔◌, inl, inr, List, [], length, Bool, true, ◌&&◌, refl, sym, ◌∙◌, arith, lt-ltb, eq-eqb, le-ltb}
+use Rattle.std.proofs.Common.{◌≡◌, ℕ, suc, ◌-◌, ◌<◌, ◌≤◌, ◌↔◌, inl, inr, List, length, Bool, true, ◌&&◌, refl, sym, ◌∙◌, arith, lt-ltb, eq-eqb, le-ltb}
 use Rattle.std.proofs.lemmas.Bool.{cases_lt, cases_Bool, and_parts, and_from}
 use Rattle.std.specs.Cmp.Lexicographic.{slice_cmp}
 use Rattle.std.specs.Ordering.{nat_cmp}

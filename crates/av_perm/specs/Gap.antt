@@ -1,5 +1,5 @@
 -- The simple words of a class by length, and where they stop.
-use Rattle.std.specs.Prelude.{ℕ, suc, ◌-◌, ◌&&◌, List, [], filter, find, Option, Some, None, ◌≡◌, flat_map}
+use Rattle.std.specs.Prelude.{ℕ, suc, ◌-◌, ◌&&◌, List, filter, find, Option, Some, None, ◌≡◌, flat_map}
 use Rattle.av_perm.specs.Lists.{counting, is_nil}
 use Rattle.av_perm.specs.Class.{class_at}
 use Rattle.av_perm.specs.Simple.{is_simple}

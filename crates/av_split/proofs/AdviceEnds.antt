@@ -7,8 +7,9 @@ use Rattle.av_perm.proofs.Membership.{Each}
 use Rattle.av_name.specs.declared.constraints.Known.TheVariants.{Inside, Outside}
 use Rattle.av_split.specs.Split.{both, demands_known, next_question}
 use Rattle.av_split.specs.Boxes.{Question, Box, word_rules, demand, demands}
-use Rattle.av_split.proofs.GenericSplit.{next_finds}
-use Rattle.av_split.proofs.WordSplit.{Apt, demands_apt}
+use Rattle.av_split.proofs.OpenQuestions.{next_finds}
+use Rattle.av_split.proofs.WordRules.{Apt}
+use Rattle.av_split.proofs.WordDemands.{demands_apt}
 use Rattle.av_split.specs.declared.advising.Asked.{Asked}
 use Rattle.av_split.specs.Cells.{known_so, or_else}
 use Rattle.av_split.specs.Gathering.{question_asked, word_question, Told, Gathers, IsBroken, MayAsk}

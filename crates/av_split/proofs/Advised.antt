@@ -12,8 +12,12 @@ use Rattle.av_name.proofs.KnownPatterns.{inside_says, outside_says, free_meets}
 use Rattle.av_split.specs.Split.{demands_known, questions_of}
 use Rattle.av_split.specs.Boxes.{Box, child_of, word_rules, demands, boxes}
 use Rattle.av_split.specs.Laws.{LiesIn}
-use Rattle.av_split.proofs.GenericSplit.{Says, Met, boxes_cover, demands_say, next_finds}
-use Rattle.av_split.proofs.WordSplit.{Fine, Apt, Lies, Holds, word_law, word_meant, demands_apt, start_fine, split_law}
+use Rattle.av_split.proofs.KnownFacts.{Says, Met, demands_say}
+use Rattle.av_split.proofs.OpenQuestions.{next_finds}
+use Rattle.av_split.proofs.GenericSplit.{boxes_cover}
+use Rattle.av_split.proofs.WordRules.{Fine, Apt, Lies, Holds, word_law, word_meant}
+use Rattle.av_split.proofs.WordDemands.{demands_apt}
+use Rattle.av_split.proofs.WordSplit.{start_fine, split_law}
 use Rattle.av_split.specs.Advice.{AdviceLaw}
 
 module _ (π : List ℕ) (A R : List (List ℕ)) (w : IsWord π) (ga : Each IsWord A) (gr : Each IsWord R) (b : Box) (αs : List (List ℕ)) (are : AreBlocks π αs) (lies : LiesIn π αs b) where

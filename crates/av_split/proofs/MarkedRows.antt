@@ -23,7 +23,8 @@ use Rattle.av_split.specs.Boxes.{added}
 use Rattle.av_split.specs.Laws.{IsTidy}
 use Rattle.av_split.specs.Marks.{unmarked, once, is_side, is_named, next_mark, relates, IsSettledRow, named, constraint_of, free_mark}
 use Rattle.av_split.specs.Walk.{IsRow}
-use Rattle.av_split.proofs.WordSplit.{stands, stands_itself, added_known, added_fit, added_tidy, free_tidy, free_fit}
+use Rattle.av_split.proofs.WordRules.{stands, stands_itself, added_known, added_fit, added_tidy}
+use Rattle.av_split.proofs.WordSplit.{free_tidy, free_fit}
 
 -- a pattern of the row is a required word of the constraint, or an avoided one
 pub record Has (r : Bool) (ps : List (List ℕ)) (row : List Mark) (w : List ℕ) : Type 0 where

@@ -10,7 +10,7 @@ use Rattle.av_split.specs.declared.steps.Step.TheVariants.{Holds, Fails, Asks}
 use Rattle.std.proofs.Math.ListN.{drop_of_length-le}
 use Rattle.std.proofs.lemmas.Bool.{cases_lt}
 use Rattle.av_split.specs.Split.{Demand, both, either, turned, all_of, some_of, at_open, first_open}
-use Rattle.av_split.proofs.GenericSplit.{both_inside, both_out, either_in}
+use Rattle.av_split.proofs.KnownFacts.{both_inside, both_out, either_in}
 use Rattle.av_split.specs.Cells.{IsStep, IsFirst, known_so, or_first, or_else, step_or, turned_step}
 
 -- what the items gone through tell together where one that holds suffices and none did, by the first open cell or question

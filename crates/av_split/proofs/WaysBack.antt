@@ -1,5 +1,5 @@
 -- The way back along the cuts of a path, whatever is remembered of them.
-use Rattle.std.proofs.Common.{◌≡◌, ◌<◌, ◌++◌, inl, inr, List, [], ◌∷◌, ℕ, Bool, true, false, cond, Option, Some, length, reverse, sym, ap, ◌∙◌, subst, arith}
+use Rattle.std.proofs.Common.{◌≡◌, ◌<◌, ◌++◌, inl, inr, List, [], ◌∷◌, ℕ, zero, suc, set, get_or, refl, Bool, true, false, cond, Option, Some, length, reverse, sym, ap, ◌∙◌, subst, arith}
 use Rattle.std.proofs.lemmas.List.{length-set, get_or-set_same}
 use Rattle.av_perm.specs.Members.{In}
 use Rattle.av_split.specs.declared.cells.Cell.{Cell}
@@ -11,6 +11,16 @@ use Rattle.av_split.specs.Cells.{question_at}
 use Rattle.av_split.specs.Marks.{box_of}
 use Rattle.av_split.specs.Paths.{before, AreCutsBy, parts_left, parts_of, CanEnter, AreTurns, IsEntered, Either, GoesBack}
 use Rattle.av_split.proofs.LastItems.{In_reverse}
+
+-- the value of a known option
+pub some : {A : Type 0} {x y : A} → Some x ≡ Some y → x ≡ y
+some e = cc
+
+-- an item that is put back
+pub set_back : {A : Type 0} (xs : List A) (i : ℕ) (x d : A) → i < length xs → set (set xs i x) i (get_or xs i d) ≡ xs
+set_back [] i x d h = absurd (omega arith)
+set_back (y ∷ xs) zero x d h = refl
+set_back (y ∷ xs) (suc i) x d h = ap (λ l. y ∷ l) (set_back xs i x d (omega arith))
 
 -- it leads to the parts that are left, where entering the second part of a box does
 pub back_parts : {S : Type 0} (ps : List (List ℕ)) (C : List (List Mark) → S → Cell → Type 0) (P : Path S → Type 0)

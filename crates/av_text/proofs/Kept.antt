@@ -1,16 +1,15 @@
 -- Each script that is read keeps the limits.
-use Rattle.std.proofs.Common.{◌≡◌, ℕ, suc, ◌≤◌, Bool, true, false, ◌&&◌, cond, List, [], ◌∷◌, length, nat_le, nat_lt, ◌+◌, inl, inr, ◌↔◌, refl, sym, ap, ◌∙◌, arith, ltb-false, le-leb, Result, Ok, Err, Option, Some, None, All, IsTrue, subst, unwrap_or}
-use Rattle.std.proofs.lemmas.Bool.{and_from, leb-true}
+use Rattle.std.proofs.Common.{◌≡◌, ℕ, suc, ◌≤◌, Bool, true, false, ◌&&◌, cond, List, [], ◌∷◌, length, nat_le, nat_lt, ◌+◌, ◌↔◌, refl, sym, ap, ◌∙◌, arith, ltb-false, le-leb, Result, Ok, Err, Option, Some, None, All, IsTrue, subst, unwrap_or}
+use Rattle.std.proofs.lemmas.Bool.{leb-true}
 use Rattle.std.specs.List.{list_all, filter_map}
 use Rattle.std.proofs.lemmas.List.Elements.{All-nil, All-cons, All-head}
-use Rattle.av_perm.specs.Members.{In}
 use Rattle.av_perm.specs.Word.{is_word}
 use Rattle.av_perm.proofs.Tests.{all_from, all_to}
 use Rattle.av_perm.proofs.WordTests.{word_from}
 use Rattle.av_union.specs.declared.limits.TheConstants.{MAX_OVERLAY_LENGTH}
 use Rattle.av_union.specs.Union.{AreShortTogether}
 use Rattle.av_text.specs.declared.kind.Kind.{Kind}
-use Rattle.av_text.specs.declared.kind.Kind.TheVariants.{BadWord, LongWord, ManyWords, BadByte, TooLong, UnknownQuery, BadNumber, Range, SecondBasis, SecondRequire, SecondFormat, LongUnion, SecondUnion}
+use Rattle.av_text.specs.declared.kind.Kind.TheVariants.{BadWord, LongWord, ManyWords, BadByte, TooLong, BadNumber, Range, SecondBasis, SecondRequire, SecondFormat, LongUnion, SecondUnion}
 use Rattle.av_text.specs.declared.queries.Query.{Query}
 use Rattle.av_text.specs.declared.says.Says.{Says}
 use Rattle.av_text.specs.declared.says.Says.TheVariants.{Nothing, Basis, Unites, Requires, Formats, Asks}
@@ -18,7 +17,7 @@ use Rattle.av_text.specs.declared.says.Seen.{Seen}
 use Rattle.av_text.specs.declared.heard.UnionLine.{UnionLine}
 use Rattle.av_text.specs.declared.script.Script.{Script}
 use Rattle.av_text.specs.Steps.{◌>>=◌}
-use Rattle.av_perm.specs.declared.limits.TheConstants.{MAX_LENGTH, MAX_PATTERN_LENGTH}
+use Rattle.av_perm.specs.declared.limits.TheConstants.{MAX_PATTERN_LENGTH}
 use Rattle.av_text.specs.declared.limits.TheConstants.{MAX_SCRIPT_BYTES, MAX_PATTERNS, MAX_FORMAT, DEFAULT_FORMAT}
 use Rattle.av_text.specs.Lines.{script_lines, is_allowed, tokens}
 use Rattle.av_text.specs.Words.{entries_of, checked_word, word_or_fault, word_in}

@@ -1,5 +1,5 @@
 -- What the lines of a script so far have said.
-use Rattle.std.specs.Prelude.{ℕ, List, [], ◌∷◌, ◌++◌, is_some, Option, Some, None, Result, option_to_list}
+use Rattle.std.specs.Prelude.{ℕ, [], ◌∷◌, ◌++◌, is_some, Some, None, Result, option_to_list}
 use Rattle.av_text.specs.declared.says.Says.{Says}
 use Rattle.av_text.specs.declared.says.Says.TheVariants.{Nothing, Basis, Unites, Requires, Formats, Asks}
 use Rattle.av_text.specs.declared.says.Seen.{Seen}

@@ -1,4 +1,5 @@
 pub mod Picks
+pub mod PlacedPicks
 pub mod TreeWords
 pub mod Entries
 pub mod Cuts

@@ -9,6 +9,7 @@ pub mod ChoiceLists
 pub mod InsertedEntries
 pub mod RisingPlaces
 pub mod WordsAfter
+pub mod GrownEntries
 pub mod Growth
 pub mod GrownWords
 pub mod Nodes

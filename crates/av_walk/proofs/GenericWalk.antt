@@ -9,7 +9,8 @@ use Rattle.av_perm.proofs.Membership.{Each, append_left, append_right, flat_map_
 use Rattle.av_name.specs.declared.constraints.Known.{Known}
 use Rattle.av_name.specs.declared.constraints.Known.TheVariants.{Inside, Outside, Open}
 use Rattle.av_split.specs.Split.{Demand, demands_known, at_open, first_open, next_question, Rules, questions_of}
-use Rattle.av_split.proofs.GenericSplit.{Lawful, next_finds, turned_open, open_count, open_count_length, open_count_less}
+use Rattle.av_split.proofs.OpenQuestions.{next_finds, turned_open, open_count, open_count_length, open_count_less}
+use Rattle.av_split.proofs.GenericSplit.{Lawful}
 use Rattle.av_walk.specs.Walk.{Literal, literal_known, term_known, next_of_terms, inside_count, Ending, good, bare, twice, extra, Treatment, ends, splits, stuck, broken_cell, done_cell, open_cell, treated, treatment, Leaf, leaves_by, walk_by, walk_questions, walk}
 
 -- what `g` picks in the first open item is of an open item

@@ -5,7 +5,7 @@ use Rattle.av_sys.specs.declared.terms.Equation.{Equation}
 use Rattle.av_sys.specs.declared.terms.System.{System}
 use Rattle.av_split.specs.Boxes.{demands}
 use Rattle.av_split.specs.Cells.{known_at, HaveCellsOf}
-use Rattle.av_split.proofs.WordSplit.{Apt}
+use Rattle.av_split.proofs.WordRules.{Apt}
 use Rattle.av_split.specs.declared.path.Path.{Path}
 use Rattle.av_walk.specs.declared.looking.State.{State}
 use Rattle.av_walk.specs.declared.looking.Look.{Look}

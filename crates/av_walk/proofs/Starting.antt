@@ -23,8 +23,10 @@ use Rattle.av_split.specs.Boxes.{Question, Box, word_rules, demands}
 use Rattle.av_split.specs.Marks.{box_of, free_mark}
 use Rattle.av_split.specs.Cells.{AreDemandsOf, known_at}
 use Rattle.av_split.specs.Walk.{AreRows}
-use Rattle.av_split.proofs.WordSplit.{Apt, demands_apt}
-use Rattle.av_split.proofs.Cutting.{free_rows, free_box, some}
+use Rattle.av_split.proofs.WordRules.{Apt}
+use Rattle.av_split.proofs.WordDemands.{demands_apt}
+use Rattle.av_split.proofs.WaysBack.{some}
+use Rattle.av_split.proofs.Cutting.{free_rows, free_box}
 use Rattle.av_split.specs.declared.path.Path.{Path}
 use Rattle.av_walk.specs.declared.looking.State.{State}
 use Rattle.av_walk.specs.Walk.{Literal, Leaf, walk}

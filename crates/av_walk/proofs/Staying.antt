@@ -9,8 +9,9 @@ use Rattle.av_split.specs.Split.{turned, all_of, Demand, demand_known, demands_k
 use Rattle.av_split.specs.Boxes.{Question}
 use Rattle.av_split.specs.Marks.{once}
 use Rattle.av_split.specs.Cells.{AreDemandsOf}
-use Rattle.av_split.proofs.GenericSplit.{turned_open}
-use Rattle.av_split.proofs.Cutting.{all_pass, demand_pass, turned_twice, inside_open, outside_open, open_none, once_keeps, once_other, take_In, cell_question}
+use Rattle.av_split.proofs.OpenQuestions.{turned_open}
+use Rattle.av_split.proofs.RowBoxes.{take_In, cell_question}
+use Rattle.av_split.proofs.PassedDemands.{all_pass, demand_pass, turned_twice, inside_open, outside_open, open_none, once_keeps, once_other}
 use Rattle.av_walk.specs.declared.looking.State.{State}
 use Rattle.av_walk.specs.declared.looking.State.TheVariants as states
 use Rattle.av_walk.specs.Walk.{Literal, literal_known, term_known}

@@ -6,7 +6,7 @@ use Rattle.av_split.specs.declared.cells.Cell.{Cell}
 use Rattle.av_split.specs.Split.{turned, Demand, first_open, demands_known, next_question}
 use Rattle.av_split.specs.Boxes.{Question}
 use Rattle.av_split.specs.Cells.{question_at, IsQuestionOf, AreDemandsOf}
-use Rattle.av_split.proofs.Cutting.{OptionOf, all_same, first_same, demands_same, next_same}
+use Rattle.av_split.proofs.CellQuestions.{OptionOf, all_same, first_same, demands_same, next_same}
 use Rattle.av_walk.specs.Walk.{Literal, literal_known, term_known, one_more, inside_count, next_of_terms, Treatment, Ending, ends, splits, stuck, broken_cell, done_cell, open_cell, treated}
 use Rattle.av_walk.specs.Numbers.{IsLiteralOf, AreLiteralsOf, AreTermsOf}
 use Rattle.av_walk.specs.Paths.{treatment_at}

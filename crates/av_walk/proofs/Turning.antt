@@ -14,10 +14,12 @@ use Rattle.av_split.specs.Marks.{once, box_of}
 use Rattle.av_split.specs.Cells.{question_at, IsQuestionOf, AreDemandsOf, known_at, HaveCellsOf}
 use Rattle.av_split.specs.Paths.{before, parts_left, parts_of, CanEnter, IsEntered, GoesBack}
 use Rattle.av_split.specs.Walk.{AreRows}
-use Rattle.av_split.proofs.GenericSplit.{open_count}
-use Rattle.av_split.proofs.WordSplit.{Fine, Apt, word_law}
-use Rattle.av_split.proofs.WaysBack.{back_parts, path_turns}
-use Rattle.av_split.proofs.Cutting.{cell_known, rows_fine, question_cell, cell_question, next_box, next_rows, next_known, set_back, some, weight, weight_two, weight_some}
+use Rattle.av_split.proofs.OpenQuestions.{open_count}
+use Rattle.av_split.proofs.WordRules.{Fine, Apt, word_law}
+use Rattle.av_split.proofs.WaysBack.{some, set_back, back_parts, path_turns}
+use Rattle.av_split.proofs.RowBoxes.{cell_known, rows_fine, question_cell, cell_question, question_enters}
+use Rattle.av_split.proofs.SettledRows.{next_box, next_rows, next_known}
+use Rattle.av_split.proofs.Weights.{weight, weight_two, weight_some}
 use Rattle.av_split.specs.declared.path.Path.{Path}
 use Rattle.av_walk.specs.declared.looking.State.{State}
 use Rattle.av_split.specs.declared.path.Turn.{Turn}
@@ -77,11 +79,7 @@ module _ (k : ℕ) (ps : List (List ℕ)) (ds : List (Demand Cell)) (es : List (
         record { cell_is = s.0; cuts = s.1; unknown = a.0; there = a.1 }
 
     can_enter : (cell : Cell) → Asked cell → CanEnter ps rows cell
-    can_enter cell a = record {
-      child = let h = a.cell_is.child in let n = is.count in omega arith;
-      pattern = a.cell_is.pattern;
-      size = (is.each cell.child a.cell_is.child).size;
-    }
+    can_enter cell a = question_enters k ps rows cell (question_at ps cell) is a.cell_is
 
     -- the pattern of the cell, of which nothing is known
     cell_open : (cell : Cell) → Asked cell → known_at rows cell ≡ Open

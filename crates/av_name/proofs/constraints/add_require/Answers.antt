@@ -1,8 +1,7 @@
 -- The maximal words but for the word 1 are the maximal words, since the pattern has more entries.
-use Rattle.std.proofs.Common.{◌≡◌, ◌∷◌, List, ℕ, ap, ap₂, ◌∙◌}
-use Rattle.av_perm.specs.Class.{top, maximal}
+use Rattle.std.proofs.Common.{List, ℕ, ap, ap₂, ◌∙◌}
+use Rattle.av_perm.specs.Class.{top}
 use Rattle.av_perm.proofs.PermWords.{perm_word}
-use Rattle.av_sys.specs.declared.names.Constraint.{Constraint}
 use Rattle.av_name.proofs.Growth.{required_top}
 use Rattle.av_name.proofs.constraints.add_require.Goals as goal
 

@@ -3,7 +3,7 @@ use Rattle.std.proofs.Common.{◌≡◌, ◌∙◌, ◌++◌, [], List, true, fa
 use Rattle.std.specs.Option.{is_some}
 use Rattle.av_split.specs.Boxes.{Box, demands}
 use Rattle.av_split.specs.Walk.{left_of, Takes}
-use Rattle.av_split.proofs.Cutting.{walk_cells, walk_step, walk_turn, given}
+use Rattle.av_split.proofs.Cutting.{given, walk_cells, walk_step, walk_turn}
 use Rattle.av_split.proofs.splitting.find.Goals as goal
 
 -- by whether a box was given

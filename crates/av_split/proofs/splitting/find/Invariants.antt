@@ -3,7 +3,7 @@ use Rattle.std.proofs.Common.{◌≡◌}
 use Rattle.av_split.specs.Boxes.{demands}
 use Rattle.av_split.specs.Paths.{parts_of}
 use Rattle.av_split.specs.Walk.{IsWalk, left_of}
-use Rattle.av_split.proofs.Cutting.{weights}
+use Rattle.av_split.proofs.Weights.{weights}
 use Rattle.av_split.proofs.splitting.find.Given as goal
 
 abbrev pub invariant-loop-rest : goal.invariant-loop-rest
