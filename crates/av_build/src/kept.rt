@@ -3,6 +3,7 @@ ghost use Rattle.std.specs.Prelude.{◌≡◌, ◌<◌, ◌≤◌, [], ◌∷◌
 ghost use Rattle.av_build.specs.Lean.{with_number, place_of};
 
 use av_perm::Memory;
+use av_sys::EquationNumber;
 use indexmap::IndexSet;
 use std::alloc::Global;
 use std::marker::Model;
@@ -47,21 +48,21 @@ impl KeptList {
     }
 
     // Adds an equation, unless it is one of them.
-    pub fn add(&mut self, old: u32) -> Result<(), Memory>
+    pub fn add(&mut self, old: EquationNumber) -> Result<(), Memory>
         ensures { OnOk result (self.new ≡ with_number self.old old) }
     {
-        match self.numbers.insert(old) {
+        match self.numbers.insert(old.0) {
             Ok(_) => Ok(()),
             Err(_) => Err(Memory),
         }
     }
 
     // The new number of an equation, by its old one, and how many there are where it is none of them.
-    pub fn number(&self, old: u32) -> usize
+    pub fn number(&self, old: EquationNumber) -> usize
         ensures value { result ≡ place_of self.now old }
         ensures within { result ≤ length self.now }
     {
-        match self.numbers.get_index_of(&old) {
+        match self.numbers.get_index_of(&old.0) {
             Some(i) => i,
             None => self.numbers.len(),
         }

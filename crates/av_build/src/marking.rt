@@ -78,7 +78,7 @@ fn are_marked(marks: &MarkList, children: &Children) -> bool
     children
         .as_slice()
         .iter()
-        .all(|child| marks.is_marked(*child as usize))
+        .all(|child| marks.is_marked(child.0 as usize))
 }
 
 // Whether the children of a term are all marked.

@@ -7,7 +7,7 @@ ghost use Rattle.av_build.specs.Lean.{marked_terms, children_in, with_numbers, k
 use crate::kept::KeptList;
 use crate::marking::{MarkList, has_marked, mark_alive};
 use av_perm::Memory;
-use av_sys::{Children, Equation, Equations, System, Term, Terms};
+use av_sys::{Children, Equation, EquationNumber, Equations, System, Term, Terms};
 use std::alloc::Global;
 
 // Adds the children of a term.
@@ -65,7 +65,7 @@ fn new_numbers(alloc: Global, kept: &KeptList, children: &Children) -> Result<Ch
 {
     let mut numbers = Children::empty(alloc);
     for child in children.as_slice() {
-        numbers.push(kept.number(*child) as u32)?;
+        numbers.push(EquationNumber(kept.number(*child) as u32))?;
     }
     Ok(numbers)
 }

@@ -9,7 +9,7 @@ ghost use Rattle.av_walk.specs.Leaves.{name_of_equation, names_at};
 ghost use Rattle.av_check.specs.Verdicts.{first_some, first_sign, are_signed, roots_for, is_wrong_node, wrong_root};
 
 use av_perm::{Perm, Words, skew_root, sum_root};
-use av_sys::{Children, Equation, Name, Sign, System, Term};
+use av_sys::{Children, Equation, EquationNumber, Name, Sign, System, Term};
 
 // Whether the word is 12.
 pub fn is_sum_root(root: &Perm) -> bool
@@ -57,17 +57,17 @@ fn is_listed(sign: Sign, simples: &Words, root: &Perm) -> bool
 }
 
 // The sign of an equation's name.
-fn sign_at(system: &System, number: u32) -> Sign
+fn sign_at(system: &System, number: EquationNumber) -> Sign
     ensures { result ≡ (name_of_equation (slice_get system.now.equations number)).sign }
 {
-    match system.equations.as_slice().get(number as usize) {
+    match system.equations.as_slice().get(number.0 as usize) {
         Some(equation) => equation.name.sign,
         None => Sign::C,
     }
 }
 
 // Whether each name of some children has the sign C.
-fn are_plain(system: &System, children: &[u32]) -> bool
+fn are_plain(system: &System, children: &[EquationNumber]) -> bool
     ensures { result ≡ list_all (λ child. same_sign (name_of_equation (slice_get system.now.equations child)).sign Sign.C) children.now }
 {
     children

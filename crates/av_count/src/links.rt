@@ -13,7 +13,7 @@ use std::marker::Model;
 #[derive(Clone, Copy, PartialEq, Eq, Hash)]
 pub enum Rest {
     // The last child alone: its equation.
-    Last(u32),
+    Last(usize),
     // More than one: the number of the link of the first of them.
     More(usize),
 }
@@ -21,7 +21,7 @@ pub enum Rest {
 // A child's equation, and the children after it.
 #[derive(Clone, Copy, PartialEq, Eq, Hash)]
 pub struct Link {
-    pub first: u32,
+    pub first: usize,
     pub rest: Rest,
 }
 
@@ -80,7 +80,7 @@ impl Links {
         requires { from < length children.now }
         ensures { IfOk result (λ r. AddsRest self.old self.new (drop from children.now) r) }
     {
-        let first = *children.get(from);
+        let first = children.equation(from);
         let last = children.len() - 1;
         if from == last {
             Ok(Rest::Last(first))
@@ -95,7 +95,7 @@ impl Links {
         requires { 2 ≤ length children.now }
         ensures { IfOk result (λ l. AddsNode self.old self.new children.now l) }
     {
-        let first = *children.get(0);
+        let first = children.equation(0);
         let rest = self.rest(children, 1)?;
         Ok(Link { first, rest })
     }

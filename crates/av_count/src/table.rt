@@ -26,9 +26,9 @@ fn node_value(layout: &Layout, counts: &Rows, rests: &Rows, link: Link, size: us
     requires node { (cs : List ℕ) × AreNumbers (length layout.now.of.value.equations) cs × IsLinkOf layout.now.links cs link }
     ensures { (cs : List ℕ) → AreNumbers (length layout.now.of.value.equations) cs → IsLinkOf layout.now.links cs link → result ≡ capped (ways (count_at layout.now.of.value) cs size) }
 {
-    let first = counts.row(link.first as usize);
+    let first = counts.row(link.first);
     match link.rest {
-        Rest::Last(eq) => convolved(first, counts.row(eq as usize), size),
+        Rest::Last(eq) => convolved(first, counts.row(eq), size),
         Rest::More(i) => convolved(first, rests.row(i), size),
     }
 }
@@ -122,7 +122,7 @@ fn tail_value(
         return node_value(layout, counts, rests, link, size);
     }
     match layout.links.after(link.rest, child - 2) {
-        Rest::Last(eq) => counts.row(eq as usize).get(size),
+        Rest::Last(eq) => counts.row(eq).get(size),
         Rest::More(i) => rests.row(i).get(size),
     }
 }

@@ -52,7 +52,7 @@ fn add_last(node: &Node, sizes: &[u8], sums: &Row, left: usize, out: &mut Row)
     requires room { HasRoomFor (how_often (totals_left node.now.levels.now node.now.root.now node.now.children.now sizes.now left)) out.old }
     ensures { Adds (how_often (totals_left node.now.levels.now node.now.root.now node.now.children.now sizes.now left)) out.old out.new }
 {
-    let child = *node.children.get(sizes.len()) as usize;
+    let child = node.children.equation(sizes.len());
     let all = with_size(sizes, left as u8);
     let from = added_by(node.levels.kind(), node.root, all.as_slice());
     out.add_product(from, sums, node.levels.row(child, left));
@@ -82,7 +82,7 @@ fn add_blocks(
         add_last(node, sizes, sums, left, out);
         return Ok(());
     }
-    let child = *node.children.get(sizes.len()) as usize;
+    let child = node.children.equation(sizes.len());
     for size in 1..left {
         let row = node.levels.row(child, size);
         // A child that is a point has no other sizes.

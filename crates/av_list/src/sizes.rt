@@ -43,7 +43,7 @@ fn leaves_lists(node: &NodeTerm, i: usize, size: usize, at: usize) -> bool
     requires at { at ≤ size }
     ensures { IsTrue result ↔ 0 < count_at node.now.table.now.system (slice_index_or node.now.children.now i 0) at * ways (count_at node.now.table.now.system) (drop (i + 1) node.now.children.now) (size - at) }
 {
-    let child = *node.children.get(i) as usize;
+    let child = node.children.equation(i);
     let number = node.table.get(child, at);
     let here = is_some(number);
     let rest = is_some(rest_count(
@@ -152,7 +152,7 @@ pub fn first_sizes(
     }
     let cut = first_size(node, i, size, factor, r);
     sizes.push(cut.at);
-    let number = node.table.get(*node.children.get(i) as usize, cut.at);
+    let number = node.table.get(node.children.equation(i), cut.at);
     first_sizes(
         node,
         i + 1,

@@ -30,7 +30,7 @@ fn add_dues_below(system: &System, vertex: &Vertex, derivation: &mut Derivation)
         for k in 0..len {
             let i = len - 1 - k;
             derivation.push_due(Due {
-                equation: *children.get(i) as usize,
+                equation: children.equation(i),
                 size: vertex.sizes.get(i),
             });
         }

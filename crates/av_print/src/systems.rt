@@ -11,13 +11,13 @@ use crate::numbers::Number;
 use crate::text::Text;
 use crate::trees::Root;
 use av_io::{Sink, SinkFault};
-use av_sys::{Children, Equation, Equations, Name, Sign, System, Term, Terms};
+use av_sys::{Children, Equation, EquationNumber, Equations, Name, Sign, System, Term, Terms};
 
 /// The number of an equation, whose text is its numeral after an `E`.
 #[derive(Clone, Copy)]
-struct EquationNumber(u128);
+struct Label(u128);
 
-impl Text for EquationNumber {
+impl Text for Label {
     ghost use Rattle.av_print.specs.Systems.{number_text};
 
     ghost text = { λ number. number_text number.0 };
@@ -28,14 +28,13 @@ impl Text for EquationNumber {
     }
 }
 
-/// A child is the number of an equation.
-impl Text for u32 {
+impl Text for EquationNumber {
     ghost use Rattle.av_print.specs.Systems.{number_text};
 
     ghost text = { number_text };
 
     fn put_on<K: Sink>(&self, sink: &mut K) -> Result<(), SinkFault> {
-        EquationNumber(u128::from(*self)).put_on(sink)
+        Label(u128::from(self.0)).put_on(sink)
     }
 }
 
@@ -119,7 +118,7 @@ impl Text for Name {
 /// An equation with its number, whose text is a line.
 #[derive(Clone, Copy)]
 struct Line<'a> {
-    number: EquationNumber,
+    number: Label,
     equation: &'a Equation,
 }
 
@@ -145,7 +144,7 @@ impl Text for Equations {
         let mut number: u128 = 0;
         for equation in self.as_slice() {
             let line = Line {
-                number: EquationNumber(number),
+                number: Label(number),
                 equation,
             };
             line.put_on(sink)?;

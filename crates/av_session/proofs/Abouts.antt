@@ -1,16 +1,12 @@
 -- What a script is about: the minimal words of its basis and the maximal of its required words make its class.
-use Rattle.std.proofs.Common.{◌≡◌, ℕ, suc, ◌≤◌, ◌↔◌, ◌⊎◌, inl, inr, sym, subst, List, [], length, get_or, nat_le, Ok, All, Option, Some, None, unwrap_or, refl, ap, arith}
+use Rattle.std.proofs.Common.{◌≡◌, ℕ, suc, ◌≤◌, ◌↔◌, ◌⊎◌, inl, inr, sym, subst, List, [], Ok, All, Option, Some, None, unwrap_or, refl, ap, arith}
 use Rattle.std.specs.Option.{option_map}
-use Rattle.std.proofs.lemmas.Bool.{and_parts}
 use Rattle.std.proofs.lemmas.List.Elements.{All-get_or}
-use Rattle.av_perm.specs.declared.limits.TheConstants.{MAX_LENGTH}
 use Rattle.av_perm.specs.Members.{IsListOf}
-use Rattle.av_perm.specs.Word.{is_word}
 use Rattle.av_perm.specs.Class.{minimal, top}
 use Rattle.av_perm.specs.Gap.{simples, IsSettled, IsUnsettled}
 use Rattle.av_perm.specs.Relations.{IsWord, Contains, InClass, InClassAt, InClassWith, AreWords}
 use Rattle.av_perm.specs.Laws.{IsSimpleOf, IsGap, IsLeastGap}
-use Rattle.av_perm.proofs.WordTests.{word_from}
 use Rattle.av_perm.proofs.MinimalWords.{minimal_list, each_words}
 use Rattle.av_perm.proofs.Classes.{minimal_holds}
 use Rattle.av_perm.proofs.Membership.{Each}

@@ -3,6 +3,7 @@ use av_check::{Flaw, Verdict};
 use av_io::{Sink, SinkFault};
 use av_perm::Perm;
 use av_print::{Bytes, Number, Text, put, put_word};
+use av_sys::EquationNumber;
 
 /// A root, whose text is that of its word, in round brackets where it has more than nine entries.
 #[derive(Clone, Copy)]
@@ -57,11 +58,18 @@ impl Text for Judged<'_> {
     fn put_on<K: Sink>(&self, sink: &mut K) -> Result<(), SinkFault> {
         match self.verdict {
             Verdict::Yes => put(sink, b"yes"),
-            Verdict::Name { eq } => (Bytes(b"no "), eq, Bytes(b" name")).put_on(sink),
-            Verdict::Point { eq } => (Bytes(b"no "), eq, Bytes(b" point")).put_on(sink),
+            Verdict::Name { eq } => {
+                let equation = EquationNumber(*eq);
+                (Bytes(b"no "), equation, Bytes(b" name")).put_on(sink)
+            }
+            Verdict::Point { eq } => {
+                let equation = EquationNumber(*eq);
+                (Bytes(b"no "), equation, Bytes(b" point")).put_on(sink)
+            }
             Verdict::Root { eq, root } => {
+                let equation = EquationNumber(*eq);
                 let wrong = (Root(root), Bytes(b" root"));
-                (Bytes(b"no "), eq, Bytes(b" "), wrong).put_on(sink)
+                (Bytes(b"no "), equation, Bytes(b" "), wrong).put_on(sink)
             }
             Verdict::Cell {
                 eq,
@@ -75,7 +83,8 @@ impl Text for Judged<'_> {
                     Bytes(b" "),
                     Wrong(flaw),
                 );
-                (Bytes(b"no "), eq, Bytes(b" "), (Root(root), place)).put_on(sink)
+                let equation = EquationNumber(*eq);
+                (Bytes(b"no "), equation, Bytes(b" "), (Root(root), place)).put_on(sink)
             }
         }
     }

@@ -23,7 +23,7 @@ fn are_numbers_of(equations: usize, children: &Children) -> bool
     children
         .as_slice()
         .iter()
-        .all(|child| (*child as usize) < equations)
+        .all(|child| (child.0 as usize) < equations)
 }
 
 // Whether the root is one of a system, and the children are as many as it is long, each the number of one of so many

@@ -13,4 +13,4 @@ mod terms;
 
 pub use check::is_system_root;
 pub use names::{Constraint, Name, Sign};
-pub use terms::{Children, Equation, Equations, System, Term, Terms};
+pub use terms::{Children, Equation, EquationNumber, Equations, System, Term, Terms};

@@ -7,10 +7,24 @@ use av_perm::{Memory, Perm};
 use std::alloc::Global;
 use std::marker::Model;
 
-/// The numbers of the equations of a root's children, in order. Equations are numbered from 0.
+/// The number of an equation of a system. Equations are numbered from 0, in the order of the system.
+#[derive(Clone, Copy, PartialEq, Eq)]
+pub struct EquationNumber(pub u32);
+
+impl Model for EquationNumber {
+    ghost use Rattle.std.specs.Prelude.{ℕ};
+
+    ghost Value = { ℕ };
+
+    ghost view = { λ n. n.0 };
+
+    ghost inverse = { λ n. record { 0 = n } };
+}
+
+/// The numbers of the equations of a root's children, in order.
 #[derive(Drop)]
 pub struct Children {
-    items: Vec<u32>,
+    items: Vec<EquationNumber>,
 }
 
 impl Model for Children {
@@ -38,23 +52,23 @@ impl Children {
         self.items.len()
     }
 
-    /// The number of a child's equation, by the child's index from 0 on.
-    pub fn get(&self, i: usize) -> &u32
+    /// The index of a child's equation in its system, by the child's index from 0 on.
+    pub fn equation(&self, i: usize) -> usize
         requires { i < length self.now }
-        ensures { slice_get self.now i ≡ Some result.now }
+        ensures { slice_get self.now i ≡ Some result }
     {
-        &self.items[i]
+        self.items[i].0 as usize
     }
 
     /// The numbers.
-    pub fn as_slice(&self) -> &[u32]
+    pub fn as_slice(&self) -> &[EquationNumber]
         ensures { result.now ≡ self.now }
     {
         &self.items
     }
 
     /// Appends a number. After `Memory` the list is as before.
-    pub fn push(&mut self, child: u32) -> Result<(), Memory>
+    pub fn push(&mut self, child: EquationNumber) -> Result<(), Memory>
         ensures ok { OnOk result (self.new ≡ self.old ++ child ∷ []) }
         ensures err { OnErr result (self.new ≡ self.old) }
     {

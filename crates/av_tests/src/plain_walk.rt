@@ -42,8 +42,8 @@ fn words_step(cell: &SplitBox, child: usize, required: bool, words: &Words, befo
 fn term_step(cell: &SplitBox, system: &System, children: &Children) -> Step {
     let mut step = Step::Inside;
     for (i, child) in children.as_slice().iter().enumerate() {
-        if (*child as usize) < system.equations.len() {
-            let name = &system.equations.get(*child as usize).name;
+        if (child.0 as usize) < system.equations.len() {
+            let name = &system.equations.get(child.0 as usize).name;
             step = words_step(cell, i, false, &name.avoid, step);
             step = words_step(cell, i, true, &name.require, step);
         }

@@ -1,7 +1,7 @@
 // Systems from tables, and what is compared of them.
 use crate::words::{word_of, words_of};
 use av_perm::{Memory, Perm};
-use av_sys::{Children, Equation, Equations, Name, Sign, System, Term, Terms};
+use av_sys::{Children, Equation, EquationNumber, Equations, Name, Sign, System, Term, Terms};
 use std::alloc::Global;
 use std::test::Fail;
 
@@ -46,9 +46,15 @@ pub fn name_of(alloc: Global, sign: Sign, avoid: &str, require: &str) -> Result<
 pub fn children_of(alloc: Global, digits: &str) -> Result<Children, Memory> {
     let mut children = Children::empty(alloc);
     for digit in digits.as_bytes() {
-        children.push(digit.saturating_sub(b'0') as u32)?;
+        children.push(EquationNumber(digit.saturating_sub(b'0') as u32))?;
     }
     Ok(children)
+}
+
+/// Whether these are the numbers of the children's equations.
+pub fn are_numbers(children: &Children, numbers: &[u32]) -> bool {
+    let mut pairs = children.as_slice().iter().zip(numbers);
+    children.len() == numbers.len() && pairs.all(|(child, number)| child.0 == *number)
 }
 
 /// The inflations of the root by words of the equations with these digits.

@@ -1,5 +1,5 @@
 // Constraints, lists and systems that are known.
-use crate::system_parts::{TermRow, children_of, name_of, node, terms_of};
+use crate::system_parts::{TermRow, are_numbers, children_of, name_of, node, terms_of};
 use crate::words::{word, word_of, words_of};
 use av_perm::{Memory, Perm, Words, is_simple};
 use av_sys::{Children, Constraint, Equation, Equations, Name, Sign, System, Term, Terms};
@@ -58,10 +58,10 @@ fn system(alloc: Global, root: Perm, digits: &str) -> Result<System, Fail> {
 fn a_list_of_children(rt: HostRuntime) -> Result<(), Memory> {
     assert_eq!(rt; Children::empty(rt.alloc()).len(), 0);
     let children = children_of(rt.alloc(), "10")?;
-    assert!(rt; children.as_slice() == [1, 0].as_slice());
+    assert!(rt; are_numbers(&children, &[1, 0]));
     if children.len() == 2 {
-        assert_eq!(rt; *children.get(0), 1);
-        assert_eq!(rt; *children.get(1), 0);
+        assert_eq!(rt; children.equation(0), 1);
+        assert_eq!(rt; children.equation(1), 0);
     } else {
         assert!(rt; false);
     }
@@ -79,7 +79,7 @@ fn a_list_of_terms(rt: HostRuntime) -> Result<(), Fail> {
     match terms.get(1) {
         Term::Node { root, children } => {
             assert!(rt; *root == word(&rt, &[2, 1]));
-            assert!(rt; children.as_slice() == [1, 0].as_slice());
+            assert!(rt; are_numbers(children, &[1, 0]));
         }
         Term::Point => assert!(rt; false),
     }

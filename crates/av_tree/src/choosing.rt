@@ -114,7 +114,7 @@ pub fn choose_size(
     requires within { (F : ℕ) × (factor ≡ capped F) × (r < F * ways (count_at table.now.system) (drop i children.now) size) }
     ensures { (F : ℕ) → factor ≡ capped F → r < F * ways (count_at table.now.system) (drop i children.now) size → Sized table.now.system (slice_index_or children.now i 0) (drop (i + 1) children.now) size F r result.at result.left }
 {
-    let child = *children.get(i) as usize;
+    let child = children.equation(i);
     let mut at = 1;
     let mut left = r;
     while let Some(less) = sized_count(table, children, eq, t, i, child, size, factor, at).past(
@@ -179,7 +179,7 @@ pub fn choose(
         return r;
     }
     let cut = choose_size(table, children, eq, t, i, size, factor, r);
-    let number = table.get(*children.get(i) as usize, cut.at);
+    let number = table.get(children.equation(i), cut.at);
     let q = choose(
         table,
         children,

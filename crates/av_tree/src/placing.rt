@@ -44,7 +44,7 @@ fn smaller(
     requires least { 1 ≤ own }
     ensures { (F : ℕ) → factor ≡ capped F → result ≡ capped (F * ahead (count_at table.now.system (slice_index_or children.now i 0)) (ways (count_at table.now.system) (drop (i + 1) children.now)) size 1 (own - 1)) }
 {
-    let child = *children.get(i) as usize;
+    let child = children.equation(i);
     let mut sum = Count::of(0);
     for m in 0..own - 1 {
         sum = sum.plus(sized_count(table, children, eq, t, i, child, size, factor, m + 1));
@@ -79,7 +79,7 @@ pub fn place_of(
         return q;
     }
     let pick = picks[i];
-    let number = table.get(*children.get(i) as usize, pick.size);
+    let number = table.get(children.equation(i), pick.size);
     let before = smaller(table, children, eq, t, i, size, factor, pick.size);
     let within = place_of(
         table,

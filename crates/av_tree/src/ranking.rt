@@ -71,7 +71,7 @@ fn place(system: &System, table: &Table, eq: usize, word: &Perm) -> Count
             }; MAX_ROOT_LENGTH];
             for i in 0..parts.len() {
                 let part = parts[i].word();
-                let rank = place(system, table, *children.get(i) as usize, part);
+                let rank = place(system, table, children.equation(i), part);
                 founds[i] = Found {
                     size: part.len(),
                     rank,

@@ -1,7 +1,7 @@
 // Tops that are known.
 use crate::tops::find_top;
 use av_perm::{Memory, Perm, Words};
-use av_sys::{Children, Equation, Equations, Name, Sign, System, Term, Terms};
+use av_sys::{Children, Equation, EquationNumber, Equations, Name, Sign, System, Term, Terms};
 use std::alloc::Global;
 use std::process::Abort;
 use std::test::Fail;
@@ -35,8 +35,8 @@ fn avoiding(alloc: Global, words: &[&Perm], terms: Terms) -> Result<Equation, Me
 // The increasing words: each is the word 1, or a sum of one of them and the word 1.
 fn increasing(alloc: Global, rise: &Perm, fall: &Perm) -> Result<System, Memory> {
     let mut children = Children::empty(alloc);
-    children.push(0)?;
-    children.push(1)?;
+    children.push(EquationNumber(0))?;
+    children.push(EquationNumber(1))?;
     let mut all = point(alloc)?;
     all.push(Term::Node {
         root: rise.copy(),

@@ -48,7 +48,7 @@ fn all_mean(system: &System, children: &Children, known: &Words, blocks: &[Block
     ensures { IsTrue result ↔ AllMean system.now children.now blocks.now }
 {
     for i in 0..blocks.len() {
-        let child = *children.get(i) as usize;
+        let child = children.equation(i);
         if !means_besides(system, child, known, blocks[i].word()) {
             return false;
         }

@@ -68,7 +68,7 @@ fn push_member(
             for i in 0..children.len() {
                 let pick = picks[i];
                 let up = raise + raise_of(root, &picks, i);
-                let child = *children.get(i) as usize;
+                let child = children.equation(i);
                 push_member(system, table, child, pick.size, pick.rank, up, out);
             }
         }

@@ -114,7 +114,7 @@ fn term_of(
 {
     let mut term = CellTerm::empty(alloc);
     for i in 0..children.len() {
-        let equation = system.equations.get(*children.get(i) as usize);
+        let equation = system.equations.get(children.equation(i));
         push_name(alloc, i, &equation.name, patterns, &mut term)?;
     }
     Ok(term)

@@ -8,7 +8,7 @@ use crate::reading::numbers::equation_number;
 use crate::reading::pieces::{before, cut_at, is, is_none};
 use crate::reading::words::root_of;
 use av_perm::Memory;
-use av_sys::{Children, Term, Terms};
+use av_sys::{Children, EquationNumber, Term, Terms};
 use std::alloc::Global;
 
 /// The children whose texts the pieces are, each the number of one of so many equations.
@@ -21,7 +21,7 @@ fn each_child(alloc: Global, pieces: &[&[u8]], count: u32) -> Result<Option<Chil
         let Some(child) = equation_number(piece, count) else {
             return Ok(None);
         };
-        children.push(child)?;
+        children.push(EquationNumber(child))?;
     }
     Ok(Some(children))
 }

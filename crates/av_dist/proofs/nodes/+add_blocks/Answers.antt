@@ -16,7 +16,7 @@ loop-size-preserved-then-is_zero t c =
     let sizes = c.args.sizes.now in
     let m = c.loop-size.size in
     let row : IsRowOf (child_statistics s cs sizes m) c.row-row.result.now =
-    child_row s cs sizes c.row-row.result.now c.get.result.now m c.get.ensures c.row-row.ensures.row in
+    child_row s cs sizes c.row-row.result.now c.equation-child.result m c.equation-child.ensures c.row-row.ensures.row in
     size_skipped s c.args.node.now.root.now cs sizes c.row-row.result.now c.args.out.now c.loop-size.out m c.args.left
     c.requires.child c.loop-size.auto.size row (c.is_zero.ensures.0 c.if-is_zero.true) c.loop-size.invariant
 
@@ -27,7 +27,7 @@ times-requires-clause-room t c =
     let sizes = c.args.sizes.now in
     let m = c.loop-size.size in
     let row : IsRowOf (child_statistics s cs sizes m) c.row-row.result.now =
-    child_row s cs sizes c.row-row.result.now c.get.result.now m c.get.ensures c.row-row.ensures.row in
+    child_row s cs sizes c.row-row.result.now c.equation-child.result m c.equation-child.ensures c.row-row.ensures.row in
     let less : m < c.args.left = c.loop-size-test.true in
     let within : m ≤ s.largest = omega (arith, c.requires.most) in
     next_product s cs sizes c.args.sums.now c.row-row.result.now m c.args.left c.requires.sums row c.args.node.now.bounded within (omega (arith, less)) c.requires.few
@@ -48,7 +48,7 @@ add_blocks-requires t c =
     let long : length longer ≡ length sizes + 1 = ap length is ∙ length_push sizes m in
     let more : length sizes + 1 < length cs = omega (arith, c.if-sizes-len.false, c.len.ensures, c.requires.child) in
     let row : IsRowOf (child_statistics s cs sizes m) c.row-row.result.now =
-    child_row s cs sizes c.row-row.result.now c.get.result.now m c.get.ensures c.row-row.ensures.row in
+    child_row s cs sizes c.row-row.result.now c.equation-child.result m c.equation-child.ensures c.row-row.ensures.row in
     let sums : IsRowOf (first_sums s cs longer) c.in_ok-next.next =
     next_sums s cs sizes longer c.args.sums.now c.row-row.result.now c.in_ok-next.next m is c.requires.child c.requires.sums row c.in_ok-next.ensures.numbers in
     let few : AreFew (first_sums s cs longer) (left - m) =

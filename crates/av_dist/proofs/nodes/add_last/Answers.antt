@@ -13,7 +13,7 @@ add_product-requires c =
     let cs = c.args.node.now.children.now in
     let sizes = c.args.sizes.now in
     let row : IsRowOf (child_statistics s cs sizes c.args.left) c.row.result.now =
-    child_row s cs sizes c.row.result.now c.get.result.now c.args.left c.get.ensures c.row.ensures.row in
+    child_row s cs sizes c.row.result.now c.equation-child.result c.args.left c.equation-child.ensures c.row.ensures.row in
     let from : c.added_by-from.result ≡ added s.kind root (sizes ++ c.args.left ∷ []) =
     c.added_by-from.ensures ∙ ap₂ (λ k ns. added k root ns) c.kind.ensures (c.as_slice.ensures.value ∙ c.with_size-all.ensures) in
     last_room s root cs sizes c.args.sums.now c.row.result.now c.args.out.now c.args.left c.added_by-from.result
@@ -26,7 +26,7 @@ returns c =
     let cs = c.args.node.now.children.now in
     let sizes = c.args.sizes.now in
     let row : IsRowOf (child_statistics s cs sizes c.args.left) c.row.result.now =
-    child_row s cs sizes c.row.result.now c.get.result.now c.args.left c.get.ensures c.row.ensures.row in
+    child_row s cs sizes c.row.result.now c.equation-child.result c.args.left c.equation-child.ensures c.row.ensures.row in
     let from : c.added_by-from.result ≡ added s.kind root (sizes ++ c.args.left ∷ []) =
     c.added_by-from.ensures ∙ ap₂ (λ k ns. added k root ns) c.kind.ensures (c.as_slice.ensures.value ∙ c.with_size-all.ensures) in
     last_added s root cs sizes c.args.sums.now c.row.result.now c.args.out.now c.add_product.new.self c.args.left c.added_by-from.result

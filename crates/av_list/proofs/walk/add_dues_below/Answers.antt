@@ -41,7 +41,7 @@ loop-k-preserved c =
     let j : length cs - (c.loop-k.k + 1) ≡ i = omega (arith, c.len-len.ensures) in
     let k : length cs - c.loop-k.k ≡ i + 1 = omega (arith, c.len-len.ensures, c.loop-k-test.true) in
     let lt : i < length cs = omega (arith, c.len-len.ensures, c.loop-k-test.true) in
-    let d = ap₂ (λ a b. record { equation = a; size = b }) (sym (child_is cs i c.get.result.now c.get.ensures)) c.get-in-loop-k.ensures in
+    let d = ap₂ (λ a b. record { equation = a; size = b }) (sym (child_is cs i c.equation.result c.equation.ensures)) c.get.ensures in
     record {
       due = c.push_due.ensures.due ∙ ap₂ (λ (a : Due) (b : List Due). a ∷ b) d c.loop-k.invariant.due
           ∙ ap (λ z. z ++ c.args.derivation.now.due) (ap (λ z. record { equation = get_or cs i 0; size = get_or ns i 0 } ∷ drop z (dues cs ns)) k ∙ sym (dues_here cs ns i lt m) ∙ ap (λ z. drop z (dues cs ns)) (sym j));

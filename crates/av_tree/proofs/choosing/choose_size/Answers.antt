@@ -24,10 +24,10 @@ next_place c F h =
     let g = ways (count_at S) (drop (c.args.i + 1) cs) in
     let n = c.args.size in
     let at = c.loop-less.at in
-    let e = child_is cs c.args.i c.get.result.now c.get.ensures in
+    let e = child_is cs c.args.i c.equation-child.result c.equation-child.ensures in
     let step : c.in-Some.less + F * count_at S (get_or cs c.args.i 0) at * g (n - at) ≡ c.loop-less.left =
     subst (λ z. c.in-Some.less + F * count_at c.args.table.now.system z c.loop-less.at * ways (count_at c.args.table.now.system) (drop (c.args.i + 1) c.args.children.now) (c.args.size - c.loop-less.at) ≡ c.loop-less.left) (sym e)
-    (c.in-Some.ensures (F * count_at S c.get.result.now at * g (n - at)) (c.sized_count.ensures F h)) in
+    (c.in-Some.ensures (F * count_at S c.equation-child.result at * g (n - at)) (c.sized_count.ensures F h)) in
     size_next (count_at S (get_or cs c.args.i 0)) g n F at c.loop-less.left c.in-Some.less c.args.r c.loop-less.invariant.least (c.loop-less.invariant.place F h) step
 
 next_most : (c : goal.In-Some) → c.loop-less.at + 1 ≤ c.args.size
@@ -53,11 +53,11 @@ pub returns : goal.returns
 returns c F h lt =
     let S = c.args.table.now.system in
     let cs = c.args.children.now in
-    let e = child_is cs c.args.i c.get.result.now c.get.ensures in
+    let e = child_is cs c.args.i c.equation-child.result c.equation-child.ensures in
     record {
       least = c.loop-less.invariant.least;
       most = c.loop-less.invariant.most;
       place = c.loop-less.invariant.place F h;
       within = subst (λ z. c.loop-less.left < F * count_at c.args.table.now.system z c.loop-less.at * ways (count_at c.args.table.now.system) (drop (c.args.i + 1) c.args.children.now) (c.args.size - c.loop-less.at)) (sym e)
-          (c.in_default.ensures (F * count_at S c.get.result.now c.loop-less.at * ways (count_at S) (drop (c.args.i + 1) cs) (c.args.size - c.loop-less.at)) (c.sized_count.ensures F h));
+          (c.in_default.ensures (F * count_at S c.equation-child.result c.loop-less.at * ways (count_at S) (drop (c.args.i + 1) cs) (c.args.size - c.loop-less.at)) (c.sized_count.ensures F h));
     }

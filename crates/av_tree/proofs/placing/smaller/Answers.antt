@@ -17,7 +17,7 @@ loop-m-init c F h = let e : 0 ≡ F * 0 = omega arith in c.of-sum.ensures ∙ ap
 
 pub sized_count-requires-clause-child : goal.sized_count-requires-clause-child
 sized_count-requires-clause-child c =
-    subst (λ z. z < length c.args.table.now.system.equations) (child_is c.args.children.now c.args.i c.get.result.now c.get.ensures) (c.requires.known c.args.i c.requires.i)
+    subst (λ z. z < length c.args.table.now.system.equations) (child_is c.args.children.now c.args.i c.equation-child.result c.equation-child.ensures) (c.requires.known c.args.i c.requires.i)
 
 more : (f g : ℕ → ℕ) (n F m : ℕ) → F * ahead f g n 1 m + F * f (m + 1) * g (n - (m + 1)) ≡ F * ahead f g n 1 (m + 1)
 more f g n F m =
@@ -36,7 +36,7 @@ loop-m-preserved c F h =
     let g = ways (count_at S) (drop (c.args.i + 1) cs) in
     let n = c.args.size in
     let m = c.loop-m.m in
-    let e = child_is cs c.args.i c.get.result.now c.get.ensures in
-    c.plus-sum.ensures (F * ahead (count_at S (get_or cs c.args.i 0)) g n 1 m) (F * count_at S c.get.result.now (m + 1) * g (n - (m + 1))) (c.loop-m.invariant F h) (c.sized_count.ensures F h)
+    let e = child_is cs c.args.i c.equation-child.result c.equation-child.ensures in
+    c.plus-sum.ensures (F * ahead (count_at S (get_or cs c.args.i 0)) g n 1 m) (F * count_at S c.equation-child.result (m + 1) * g (n - (m + 1))) (c.loop-m.invariant F h) (c.sized_count.ensures F h)
     ∙ ap (λ z. capped (F * ahead (count_at S (get_or cs c.args.i 0)) g n 1 m + F * count_at S z (m + 1) * g (n - (m + 1)))) (sym e)
     ∙ ap capped (more (count_at S (get_or cs c.args.i 0)) g n F m)

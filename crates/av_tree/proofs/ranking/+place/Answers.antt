@@ -38,8 +38,8 @@ unwrap-top-requires t c =
     match_some c.find_top.result (HasNoTop c.args.system.now c.args.eq c.args.word.now) (λ (top : Top). IsTop c.args.system.now c.args.eq c.args.word.now top.term top.blocks.items)
     (some_top c.args.system.now c.args.word.now c.requires.formed c.requires.named c.args.eq c.requires.means two) c.find_top.ensures
 
-pub get-requires-in-loop-i : goal.get-requires-in-loop-i
-get-requires-in-loop-i t c =
+pub equation-requires : goal.equation-requires
+equation-requires t c =
     let S = c.args.system.now in
     let w = c.args.word.now in
     let root = c.in-Node.root in
@@ -64,7 +64,7 @@ place-rank-requires t c =
     let count = top_count S w root cs αs n g.long in
     let i = c.loop-i.i in
     let less : i < length cs = omega (arith, count, c.loop-i-test.true) in
-    let x = child_is cs i c.get-in-loop-i.result.now c.get-in-loop-i.ensures in
+    let x = child_is cs i c.equation.result c.equation.ensures in
     let b = block_read αs i c.index-parts-i.result (omega arith) c.index-parts-i.is ∙ sym c.word-part.ensures in
     let l = top_shorter S w root cs αs n g.long i g.two less in
     let m = ap (λ (v : List ℕ). length v) b in (
@@ -79,7 +79,7 @@ place-rank-requires t c =
               omega (arith, l, m, c.requires.short),
               (
                 named_less S (length w) (length c.word-part.result.now) (omega (arith, l, m)) c.requires.named,
-                mean_here S cs αs i c.get-in-loop-i.result.now c.word-part.result.now x b (n.means i less),
+                mean_here S cs αs i c.equation.result c.word-part.result.now x b (n.means i less),
               ),
             ),
           ),
@@ -125,9 +125,9 @@ loop-i-preserved t c =
     let n = found_top S c.args.eq w c.find_top.result c.unwrap-top.result αs root cs c.find_top.ensures c.unwrap-top.ensures c.as_slice-parts.ensures.value e in
     let count = top_count S w root cs αs n g.long in
     let i = c.loop-i.i in
-    let x = child_is cs i c.get-in-loop-i.result.now c.get-in-loop-i.ensures in
+    let x = child_is cs i c.equation.result c.equation.ensures in
     let b = block_read αs i c.index-parts-i.result (omega arith) c.index-parts-i.is ∙ sym c.word-part.ensures in
-    let h = found_here S cs αs i c.get-in-loop-i.result.now c.word-part.result.now (record { size = c.len-in-loop-i.result; rank = c.place-rank.result }) x b c.len-in-loop-i.ensures.value c.place-rank.ensures in
+    let h = found_here S cs αs i c.equation.result c.word-part.result.now (record { size = c.len-in-loop-i.result; rank = c.place-rank.result }) x b c.len-in-loop-i.ensures.value c.place-rank.ensures in
     record {
       long = length-set c.loop-i.founds i (record { size = c.len-in-loop-i.result; rank = c.place-rank.result }) ∙ c.loop-i.invariant.long;
       found = found_more S cs αs c.loop-i.founds i (record { size = c.len-in-loop-i.result; rank = c.place-rank.result })

@@ -83,7 +83,7 @@ push_member-requires t c =
     let g = node_form S c.args.eq c.choose_term-cut.result.at root cs c.requires.formed e in
     let ch = chosen_here S c.args.table.now.system c.args.eq c.choose_term-cut.result.at n c.choose_term-cut.result.left c.choose-in_front.result root cs ps c.requires.stands e c.choose_term-cut.ensures.left c.choose-in_front.ensures in
     let less : i < length cs = omega (arith, c.loop-i-test.true, c.len-i-end.ensures) in
-    let x = child_is cs i c.get.result.now c.get.ensures in
+    let x = child_is cs i c.equation-child.result c.equation-child.ensures in
     let known = (node_form S c.args.eq c.choose_term-cut.result.at root cs c.requires.formed e).known i less in
     let f = fitting_at S cs n i ps none less ch.fits in
     let rank = subst (λ z. (get_or c.choose-in_front.new.picks c.loop-i.i none).rank < count_at c.args.system.now z (get_or c.choose-in_front.new.picks c.loop-i.i none).size) x f.rank in
@@ -131,10 +131,10 @@ loop-i-preserved t c =
     let g = node_form S c.args.eq c.choose_term-cut.result.at root cs c.requires.formed e in
     let ch = chosen_here S c.args.table.now.system c.args.eq c.choose_term-cut.result.at n c.choose_term-cut.result.left c.choose-in_front.result root cs ps c.requires.stands e c.choose_term-cut.ensures.left c.choose-in_front.ensures in
     let less : i < length cs = omega (arith, c.loop-i-test.true, c.len-i-end.ensures) in
-    let x = child_is cs i c.get.result.now c.get.ensures in
+    let x = child_is cs i c.equation-child.result c.equation-child.ensures in
     let lp = length_picked S cs n ps ch.fits in
     lifted_more c.args.raise c.raise_of.result root (picked (members_at S) cs ps) i c.args.out.now.items c.loop-i.out.items c.push_member.new.out.items
-    (get_or (members_at S c.get.result.now (get_or ps i none).size) (get_or ps i none).rank [])
+    (get_or (members_at S c.equation-child.result (get_or ps i none).size) (get_or ps i none).rank [])
     c.loop-i.invariant c.push_member.ensures
     (c.raise_of.ensures ∙ sym (lower_below S c.requires.formed (get_or root i 0) root cs n ps g.long ch.fits))
     (sym (picked_at (members_at S) (count_at S) cs n i ps none less ch.fits ∙ ap (λ z. get_or (members_at S z (get_or ps i none).size) (get_or ps i none).rank []) x))

@@ -3,4 +3,4 @@ use Rattle.av_count.proofs.Linked.{adds_node}
 use Rattle.av_count.proofs.links.Links.node.Goals as goal
 
 pub returns : goal.returns
-returns c = adds_node c.args.self.now c.rest.new.self c.args.children.now c.get-first.result.now c.in_ok-rest.rest c.get-first.ensures c.in_ok-rest.ensures
+returns c = adds_node c.args.self.now c.rest.new.self c.args.children.now c.equation-first.result c.in_ok-rest.rest c.equation-first.ensures c.in_ok-rest.ensures
