@@ -12,7 +12,7 @@ use Rattle.av_perm.proofs.Membership.{Each, In_filter, filter_In}
 use Rattle.av_perm.proofs.Tests.{not_from, not_to, same_refl}
 use Rattle.av_perm.proofs.Ascending.{ascending_same, ascending_filter, once_from_ascending}
 use Rattle.av_perm.proofs.Containment.{contains_one, contains_trans, contains_length}
-use Rattle.av_perm.proofs.MinimalWords.{words_each, each_words, maximal_is, maximal_ascending, has_maximal}
+use Rattle.av_perm.proofs.MinimalWords.{words_each, each_words, maximal_is, maximal_ascending, maximal_among, has_maximal}
 
 -- the word 1
 abbrev pub one : List ℕ
@@ -66,21 +66,15 @@ top_words ws g = each_words (top ws) (λ w i. words_each ws g w ((top_is ws w).0
 pub top_long : (ws : List (List ℕ)) → AreWords ws → Each (λ w. 2 ≤ length w) (top ws)
 top_long ws g w i = let t = (top_is ws w).0 i in other_long w (words_each ws g w t.member) t.other
 
+-- the maximal words of these are they
+pub maximal_top : (ws : List (List ℕ)) → maximal (top ws) ≡ top ws
+maximal_top ws = maximal_among ws (top ws) (top_ascending ws) (λ w i. (In_filter is_other (maximal ws) w i).0)
+
 -- they are their own
 pub top_again : (ws : List (List ℕ)) → top (top ws) ≡ top ws
 top_again ws = ascending_same shortlex shortlex_total (top (top ws)) (top ws) (top_ascending (top ws)) (top_ascending ws)
     (λ w i. ((top_is (top ws) w).0 i).member)
-    (λ w i.
-    let t = (top_is ws w).0 i in
-    (top_is (top ws) w).1 (record { member = i; other = t.other; greatest = λ v j c. t.greatest v ((top_is ws v).0 j).member c }))
-
--- the maximal words of these are they
-pub maximal_top : (ws : List (List ℕ)) → maximal (top ws) ≡ top ws
-maximal_top ws = ascending_same shortlex shortlex_total (maximal (top ws)) (top ws) (maximal_ascending (top ws)) (top_ascending ws)
-    (λ w i. ((maximal_is (top ws) w).0 i).member)
-    (λ w i.
-    let t = (top_is ws w).0 i in
-    (maximal_is (top ws) w).1 (record { member = i; greatest = λ v j c. t.greatest v ((top_is ws v).0 j).member c }))
+    (λ w i. filter_In is_other (maximal (top ws)) w (subst (In w) (sym (maximal_top ws)) i) (In_filter is_other (maximal ws) w i).1)
 
 -- each word of a list is the word 1, or contained in one of them
 has_top : (ws : List (List ℕ)) (x : List ℕ) → Each IsWord ws → In x ws → (x ≡ one) ⊎ ((m : List ℕ) × In m (top ws) × Contains m x)
