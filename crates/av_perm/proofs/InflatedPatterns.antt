@@ -6,12 +6,11 @@ use Rattle.av_perm.specs.Lists.{counting}
 use Rattle.av_perm.specs.Relations.{at, IsOneToLength, Contains, joined, block, raised, inflate, AreBlocks, pattern_of}
 use Rattle.av_perm.specs.Fibre.{fibre}
 use Rattle.av_perm.proofs.Membership.{In, In_at, In_joined, In_map, map_In}
-use Rattle.av_perm.proofs.RisingLists.{length_counting, counting_at}
 use Rattle.av_perm.proofs.Pairings.{Pair, froms, Placed, Placed_In, Agree, Has, Contains_Has, Has_Contains, map_joined, Placed_joined, up, up_froms, Placed_up, Placed_down}
 use Rattle.av_perm.proofs.Fibres.{fibre_hit, fibre_miss, fibre_at, at_fibre, fibre-map, fibre_In, fibre_past, Spread, spread, joined_same, fibres_joined}
 use Rattle.av_perm.proofs.Inflations.{raise_of, lifted, block_order}
 use Rattle.av_perm.proofs.Patterns.{length_pattern}
-use Rattle.av_perm.proofs.Containment.{contains_pattern, contains_one}
+use Rattle.av_perm.proofs.Containment.{all_places, contains_pattern, contains_one}
 
 -- `e` sends each place of `γ` to a child of `π`, weakly increasing, and places with different children lie as the children do
 pub record Sends (π γ e : List ℕ) : Type 0 where
@@ -167,16 +166,12 @@ fibre_one (x ∷ xs) c i h k = elim (cases_eq c i) [
 -- the root sent to itself
 itself : (π : List ℕ) → Sends π π (counting 0 (length π))
 itself π =
-    let n = length_counting (length π) 0 in
-    let is : (s : ℕ) → s < length π → at (counting 0 (length π)) s ≡ s = λ s h. omega (arith, counting_at (length π) 0 s h) in
+    let o = all_places π in
     record {
-      count = n;
-      children = λ s h. omega (arith, is s (omega arith));
-      rising = λ s t h k. omega (arith, is s (omega arith), is t (omega arith));
-      across = λ s t h k ne.
-          let a = ap (at π) (is s (omega arith)) in
-          let b = ap (at π) (is t (omega arith)) in
-          (λ l. omega arith, λ l. omega arith);
+      count = o.count;
+      children = o.placed;
+      rising = λ s t h k. omega (arith, o.rising s t h k);
+      across = λ s t h k ne. o.alike s t (omega (arith, o.count)) (omega (arith, o.count));
     }
 
 -- so the root is contained in the inflation
