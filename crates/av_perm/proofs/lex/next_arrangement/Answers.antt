@@ -138,18 +138,21 @@ last_above-greater-requires-clause-rises c =
     distinct_apart w c.requires.distinct p c.last_descent-start.result (omega arith) c.last_descent-start.ensures.within in
     rw e (omega (arith, c.last_descent-start.ensures.longest (omega arith), apart))
 
+-- the two steps make the next arrangement, of the same entries
+next_made : (c : goal.After-slice_known-3-1) →
+    let made = put_mid c.last_descent-start.result (length c.swap.new.self - c.last_descent-start.result) c.swap.new.self c.reverse.new.self in
+    (from_on c.args.entries.now ≡ c.args.entries.now ∷ from_on made) × IsPermutation c.args.entries.now made
+next_made c =
+    let w = c.args.entries.now in
+    let start = c.last_descent-start.result in
+    let above = c.last_above-greater.ensures in
+    both_steps w c.swap.new.self c.reverse.new.self (start - 1) c.last_above-greater.result start (length c.swap.new.self - start)
+    (turn_of w (start - 1) c.last_above-greater.result start (omega arith) above.after above.within c.requires.distinct
+    c.last_descent-start.ensures.falls above.above above.last)
+    (omega arith) c.swap.ensures.after refl c.reverse.ensures.after c.swap.ensures.permutation
+
 pub returns-clause-order : goal.returns-clause-order
-returns-clause-order c =
-    (both_steps c.args.entries.now c.swap.new.self c.reverse.new.self (c.last_descent-start.result - 1) c.last_above-greater.result c.last_descent-start.result (length c.swap.new.self - c.last_descent-start.result)
-    (turn_of c.args.entries.now (c.last_descent-start.result - 1) c.last_above-greater.result c.last_descent-start.result (omega arith)
-    c.last_above-greater.ensures.after c.last_above-greater.ensures.within c.requires.distinct c.last_descent-start.ensures.falls
-    c.last_above-greater.ensures.above c.last_above-greater.ensures.last)
-    (omega arith) c.swap.ensures.after refl c.reverse.ensures.after c.swap.ensures.permutation).0
+returns-clause-order c = (next_made c).0
 
 pub returns-clause-same : goal.returns-clause-same
-returns-clause-same c =
-    (both_steps c.args.entries.now c.swap.new.self c.reverse.new.self (c.last_descent-start.result - 1) c.last_above-greater.result c.last_descent-start.result (length c.swap.new.self - c.last_descent-start.result)
-    (turn_of c.args.entries.now (c.last_descent-start.result - 1) c.last_above-greater.result c.last_descent-start.result (omega arith)
-    c.last_above-greater.ensures.after c.last_above-greater.ensures.within c.requires.distinct c.last_descent-start.ensures.falls
-    c.last_above-greater.ensures.above c.last_above-greater.ensures.last)
-    (omega arith) c.swap.ensures.after refl c.reverse.ensures.after c.swap.ensures.permutation).1
+returns-clause-same c = (next_made c).1
