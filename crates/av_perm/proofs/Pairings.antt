@@ -81,8 +81,16 @@ pairs_Placed (y ∷ ys) σ (t ∷ τ) (q ∷ p) lo is within rising =
     let here = within 0 (omega arith) in
     let next : (j : ℕ) → j < length ys → at σ (suc lo + j) ≡ at ys j = λ j h. ap (at σ) (omega arith) ∙ is (suc j) (omega arith) in
     elim (cases_lt lo q) [
-      | inl l ↦ inr (pairs_Placed ys σ (t ∷ τ) (q ∷ p) (suc lo) next (λ s h. let w = within s h in let f = first_le q p rising s h in (omega arith, omega arith)) rising)
-      | inr l ↦ inl (ap (at σ) (omega arith) ∙ is 0 (omega arith), pairs_Placed ys σ τ p (suc lo) next (λ s h. let w = within (suc s) (omega arith) in let r = rising 0 (suc s) (omega arith) (omega arith) in (omega arith, omega arith)) (λ s t h k. rising (suc s) (suc t) (omega arith) (omega arith)))
+      | inl l ↦
+          inr (pairs_Placed ys σ (t ∷ τ) (q ∷ p) (suc lo) next
+          (λ s h. let w = within s h in let f = first_le q p rising s h in (omega arith, omega arith)) rising)
+      | inr l ↦
+          inl (
+            ap (at σ) (omega arith) ∙ is 0 (omega arith),
+            pairs_Placed ys σ τ p (suc lo) next
+                (λ s h. let w = within (suc s) (omega arith) in let r = rising 0 (suc s) (omega arith) (omega arith) in (omega arith, omega arith))
+                (λ s t h k. rising (suc s) (suc t) (omega arith) (omega arith)),
+          )
     ]
 
 -- an occurrence as pairs
