@@ -30,13 +30,22 @@ returns-then-pattern-i c =
     let e : List ℕ = c.args.children.now in
     let k = s.begun.children c.loop-i.i c.loop-i-test.true in
     let x = entry_at c.args.root.now (at e c.loop-i.i) k.0 in
-    let y = entry_at c.args.root.now c.args.child s.low in (
+    let y = entry_at c.args.root.now c.args.child s.low in
+    let root = (perm_word c.args.root.now c.requires.root).numbers in
+    let pattern = (perm_word c.args.pattern.now c.requires.pattern).numbers in (
       λ t. absurd (true≢false (sym t)),
-      λ b. absurd (may_not_go c.args.root.now c.args.pattern.now e c.args.child (perm_word c.args.root.now c.requires.root).numbers (perm_word c.args.pattern.now c.requires.pattern).numbers s.begun s.room (s.low, c.requires.child) s.rising c.loop-i.i c.loop-i-test.true
+      λ b. absurd (may_not_go c.args.root.now c.args.pattern.now e c.args.child root pattern s.begun s.room (s.low, c.requires.child) s.rising
+          c.loop-i.i c.loop-i-test.true
           (λ l. differ _ _ _ _ c.if-pattern-i.true (let g = l c.if-other-child.true in (λ a. let z = g.0 a in omega arith, λ a. g.1 (omega arith)))) b),
     )
 
 pub returns : goal.returns
 returns c =
     let s = c.requires.stands in
-    (λ t. may_go c.args.root.now c.args.pattern.now c.args.children.now c.args.child (perm_word c.args.root.now c.requires.root).numbers (perm_word c.args.pattern.now c.requires.pattern).numbers s.begun s.room (s.low, c.requires.child) s.rising (λ k h. c.loop-i.invariant k (omega arith)), λ b. refl)
+    let root = (perm_word c.args.root.now c.requires.root).numbers in
+    let pattern = (perm_word c.args.pattern.now c.requires.pattern).numbers in (
+      λ t.
+          may_go c.args.root.now c.args.pattern.now c.args.children.now c.args.child root pattern s.begun s.room (s.low, c.requires.child) s.rising
+          (λ k h. c.loop-i.invariant k (omega arith)),
+      λ b. refl,
+    )
