@@ -32,31 +32,23 @@ is_minimal_of ws w = list_all (λ v. same v w || not (contains w v)) ws
 abbrev pub has_no_shorter : List (List ℕ) → List ℕ → Bool
 has_no_shorter ws w = list_all (λ v. nat_le (length w) (length v) || not (contains w v)) ws
 
--- a word that is at least as long and contained is the word itself
-shorter_test : (w v : List ℕ) → IsWord w → IsWord v → (nat_le (length w) (length v) || not (contains w v)) ≡ (same v w || not (contains w v))
-shorter_test w v g h = elim (cases_lt (length v) (length w)) [
+-- a word that is at least as long and contained is the word itself, so lengths tell what a test for the same word does
+length_test : (w v : List ℕ) (same_word : Bool) → IsWord w → IsWord v → (same_word ≡ true → w ≡ v) → (w ≡ v → same_word ≡ true)
+    → (nat_le (length w) (length v) || not (contains w v)) ≡ (same_word || not (contains w v))
+length_test w v same_word g h from to = elim (cases_lt (length v) (length w)) [
   | inl lt ↦
-      let other : same v w ≡ false = elim (cases_Bool (same v w)) [ inl e ↦ absurd (let n = ap length (word_same v w e) in omega arith) | inr e ↦ e ] in
+      let other : same_word ≡ false = elim (cases_Bool same_word) [ inl e ↦ absurd (let n = ap length (from e) in omega arith) | inr e ↦ e ] in
       rw (lt-leb (length w) (length v) lt, other) refl
   | inr le ↦ rw (le-leb (length w) (length v) le) (sym (by (contains w v) refl le))
 ]
   where
-    by : (t : Bool) → contains w v ≡ t → length w ≤ length v → (same v w || not t) ≡ true
-    by false e le = or-true (same v w)
-    by true e le = rw (contains_equal w v g.numbers h.numbers le (contains_from w v e), same_refl v) refl
+    by : (t : Bool) → contains w v ≡ t → length w ≤ length v → (same_word || not t) ≡ true
+    by false e le = or-true same_word
+    by true e le = rw (to (contains_equal w v g.numbers h.numbers le (contains_from w v e))) refl
 
--- a word that is at most as long and contains the word is the word itself
-longer_test : (w v : List ℕ) → IsWord w → IsWord v → (nat_le (length v) (length w) || not (contains v w)) ≡ (same v w || not (contains v w))
-longer_test w v g h = elim (cases_lt (length w) (length v)) [
-  | inl lt ↦
-      let other : same v w ≡ false = elim (cases_Bool (same v w)) [ inl e ↦ absurd (let n = ap length (word_same v w e) in omega arith) | inr e ↦ e ] in
-      rw (lt-leb (length v) (length w) lt, other) refl
-  | inr le ↦ rw (le-leb (length v) (length w) le) (sym (by (contains v w) refl le))
-]
-  where
-    by : (t : Bool) → contains v w ≡ t → length v ≤ length w → (same v w || not t) ≡ true
-    by false e le = or-true (same v w)
-    by true e le = rw (contains_equal v w h.numbers g.numbers le (contains_from v w e), same_refl w) refl
+-- equal words pass the test for the same word
+equal_same : (v w : List ℕ) → v ≡ w → same v w ≡ true
+equal_same v w e = subst (λ u. same v u ≡ true) e (same_refl v)
 
 -- each of the words that a list holds is a word
 perm_in : (ws : List (List ℕ)) (w : List ℕ) → ArePerms ws → In w ws → IsWord w
@@ -71,7 +63,8 @@ all_same f g (w ∷ ws) h = rw (h w (inl refl), all_same f g ws (λ v i. h v (in
 
 -- the two tests agree on a list of words
 minimal_shorter : (ws : List (List ℕ)) (w : List ℕ) → ArePerms ws → In w ws → has_no_shorter ws w ≡ is_minimal_of ws w
-minimal_shorter ws w g i = all_same _ _ ws (λ v j. shorter_test w v (perm_in ws w g i) (perm_in ws v g j))
+minimal_shorter ws w g i = all_same _ _ ws (λ v j.
+    length_test w v (same v w) (perm_in ws w g i) (perm_in ws v g j) (λ e. sym (word_same v w e)) (λ e. equal_same v w (sym e)))
 
 -- a set in shortlex order takes a word as the list does
 pub insert_same : (w : List ℕ) (ws : List (List ℕ)) → insert_key shortlex ws w ≡ insert_word w ws
@@ -123,7 +116,8 @@ has_no_longer ws w = list_all (λ v. nat_le (length v) (length w) || not (contai
 
 -- the two tests agree on a list of words
 maximal_longer : (ws : List (List ℕ)) (w : List ℕ) → ArePerms ws → In w ws → has_no_longer ws w ≡ is_maximal_of ws w
-maximal_longer ws w g i = all_same _ _ ws (λ v j. longer_test w v (perm_in ws w g i) (perm_in ws v g j))
+maximal_longer ws w g i = all_same _ _ ws (λ v j.
+    length_test v w (same v w) (perm_in ws v g j) (perm_in ws w g i) (word_same v w) (equal_same v w))
 
 -- one more maximal word is kept
 pub kept_maximal : (ws old new : List (List ℕ)) (i : ℕ) (w : List ℕ) → ArePerms ws → 0 < i → slice_get ws (i - 1) ≡ Some w → has_no_longer ws w ≡ true
