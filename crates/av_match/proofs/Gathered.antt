@@ -62,7 +62,7 @@ all_same f g [] h = refl
 all_same f g (w ∷ ws) h = rw (h w (inl refl), all_same f g ws (λ v i. h v (inr i))) refl
 
 -- the two tests agree on a list of words
-minimal_shorter : (ws : List (List ℕ)) (w : List ℕ) → ArePerms ws → In w ws → has_no_shorter ws w ≡ is_minimal_of ws w
+pub minimal_shorter : (ws : List (List ℕ)) (w : List ℕ) → ArePerms ws → In w ws → has_no_shorter ws w ≡ is_minimal_of ws w
 minimal_shorter ws w g i = all_same _ _ ws (λ v j.
     length_test w v (same v w) (perm_in ws w g i) (perm_in ws v g j) (λ e. sym (word_same v w e)) (λ e. equal_same v w (sym e)))
 
@@ -84,27 +84,21 @@ earlier ws i w h e =
     let n : suc (i - 1) ≡ i = omega arith in
     drop-cons ws (i - 1) [] lt ∙ rw (get_or_from_slice_get ws (i - 1) w [] e, n) refl
 
--- one more word that passes a test is kept
-kept_more : (test : List ℕ → Bool) (ws old new : List (List ℕ)) (i : ℕ) (w : List ℕ) → 0 < i → slice_get ws (i - 1) ≡ Some w → test w ≡ true
-    → old ≡ in_shortlex (filter test (drop i ws)) → new ≡ insert_key shortlex old w → new ≡ in_shortlex (filter test (drop (i - 1) ws))
-kept_more test ws old new i w h e passes k n = n ∙ insert_same w old ∙ ap (insert_word w) k ∙ rw (earlier ws i w h e, passes) refl
+-- one more word that passes a test is kept, as another test tells that agrees with it on the list
+pub kept_more : (quick test : List (List ℕ) → List ℕ → Bool) → ((ws : List (List ℕ)) (w : List ℕ) → ArePerms ws → In w ws → quick ws w ≡ test ws w)
+    → (ws old new : List (List ℕ)) (i : ℕ) (w : List ℕ) → ArePerms ws → 0 < i → slice_get ws (i - 1) ≡ Some w → quick ws w ≡ true
+    → old ≡ in_shortlex (filter (test ws) (drop i ws)) → new ≡ insert_key shortlex old w → new ≡ in_shortlex (filter (test ws) (drop (i - 1) ws))
+kept_more quick test agree ws old new i w g h e alone k n =
+    let passes : test ws w ≡ true = sym (agree ws w g (get_In ws (i - 1) w e)) ∙ alone in
+    n ∙ insert_same w old ∙ ap (insert_word w) k ∙ rw (earlier ws i w h e, passes) refl
 
 -- a word that fails it is not
-kept_same : (test : List ℕ → Bool) (ws old : List (List ℕ)) (i : ℕ) (w : List ℕ) → 0 < i → slice_get ws (i - 1) ≡ Some w → test w ≡ false
-    → old ≡ in_shortlex (filter test (drop i ws)) → old ≡ in_shortlex (filter test (drop (i - 1) ws))
-kept_same test ws old i w h e fails k = k ∙ rw (earlier ws i w h e, fails) refl
-
--- one more minimal word is kept
-pub kept_one : (ws old new : List (List ℕ)) (i : ℕ) (w : List ℕ) → ArePerms ws → 0 < i → slice_get ws (i - 1) ≡ Some w → has_no_shorter ws w ≡ true
-    → old ≡ in_shortlex (filter (is_minimal_of ws) (drop i ws)) → new ≡ insert_key shortlex old w → new ≡ in_shortlex (filter (is_minimal_of ws) (drop (i - 1) ws))
-kept_one ws old new i w g h e alone k n =
-    kept_more (is_minimal_of ws) ws old new i w h e (sym (minimal_shorter ws w g (get_In ws (i - 1) w e)) ∙ alone) k n
-
--- none is kept
-pub kept_none : (ws old : List (List ℕ)) (i : ℕ) (w : List ℕ) → ArePerms ws → 0 < i → slice_get ws (i - 1) ≡ Some w → has_no_shorter ws w ≡ false
-    → old ≡ in_shortlex (filter (is_minimal_of ws) (drop i ws)) → old ≡ in_shortlex (filter (is_minimal_of ws) (drop (i - 1) ws))
-kept_none ws old i w g h e not_alone k =
-    kept_same (is_minimal_of ws) ws old i w h e (sym (minimal_shorter ws w g (get_In ws (i - 1) w e)) ∙ not_alone) k
+pub kept_same : (quick test : List (List ℕ) → List ℕ → Bool) → ((ws : List (List ℕ)) (w : List ℕ) → ArePerms ws → In w ws → quick ws w ≡ test ws w)
+    → (ws old : List (List ℕ)) (i : ℕ) (w : List ℕ) → ArePerms ws → 0 < i → slice_get ws (i - 1) ≡ Some w → quick ws w ≡ false
+    → old ≡ in_shortlex (filter (test ws) (drop i ws)) → old ≡ in_shortlex (filter (test ws) (drop (i - 1) ws))
+kept_same quick test agree ws old i w g h e not_alone k =
+    let fails : test ws w ≡ false = sym (agree ws w g (get_In ws (i - 1) w e)) ∙ not_alone in
+    k ∙ rw (earlier ws i w h e, fails) refl
 
 -- no other different word of the list contains the word
 abbrev pub is_maximal_of : List (List ℕ) → List ℕ → Bool
@@ -115,21 +109,9 @@ abbrev pub has_no_longer : List (List ℕ) → List ℕ → Bool
 has_no_longer ws w = list_all (λ v. nat_le (length v) (length w) || not (contains v w)) ws
 
 -- the two tests agree on a list of words
-maximal_longer : (ws : List (List ℕ)) (w : List ℕ) → ArePerms ws → In w ws → has_no_longer ws w ≡ is_maximal_of ws w
+pub maximal_longer : (ws : List (List ℕ)) (w : List ℕ) → ArePerms ws → In w ws → has_no_longer ws w ≡ is_maximal_of ws w
 maximal_longer ws w g i = all_same _ _ ws (λ v j.
     length_test v w (same v w) (perm_in ws v g j) (perm_in ws w g i) (word_same v w) (equal_same v w))
-
--- one more maximal word is kept
-pub kept_maximal : (ws old new : List (List ℕ)) (i : ℕ) (w : List ℕ) → ArePerms ws → 0 < i → slice_get ws (i - 1) ≡ Some w → has_no_longer ws w ≡ true
-    → old ≡ in_shortlex (filter (is_maximal_of ws) (drop i ws)) → new ≡ insert_key shortlex old w → new ≡ in_shortlex (filter (is_maximal_of ws) (drop (i - 1) ws))
-kept_maximal ws old new i w g h e alone k n =
-    kept_more (is_maximal_of ws) ws old new i w h e (sym (maximal_longer ws w g (get_In ws (i - 1) w e)) ∙ alone) k n
-
--- none is kept
-pub kept_no_maximal : (ws old : List (List ℕ)) (i : ℕ) (w : List ℕ) → ArePerms ws → 0 < i → slice_get ws (i - 1) ≡ Some w → has_no_longer ws w ≡ false
-    → old ≡ in_shortlex (filter (is_maximal_of ws) (drop i ws)) → old ≡ in_shortlex (filter (is_maximal_of ws) (drop (i - 1) ws))
-kept_no_maximal ws old i w g h e not_alone k =
-    kept_same (is_maximal_of ws) ws old i w h e (sym (maximal_longer ws w g (get_In ws (i - 1) w e)) ∙ not_alone) k
 
 -- what holds at `Ok`
 pub at_ok : {T E : Type 0} (P : Type 0) (r : Result T E) → is_ok r ≡ true → OnOk r P → P

@@ -3,16 +3,18 @@ use Rattle.std.proofs.Common.{arith, sym, ◌∙◌, ap}
 use Rattle.std.specs.BTreeSet.{insert_key}
 use Rattle.std.specs.Result.{is_ok}
 use Rattle.av_perm.specs.Word.{shortlex}
-use Rattle.av_match.proofs.Gathered.{kept_maximal, kept_no_maximal, at_ok}
+use Rattle.av_match.proofs.Gathered.{has_no_longer, is_maximal_of, maximal_longer, kept_more, kept_same, at_ok}
 use Rattle.av_match.proofs.maximal_words.maximal.Goals as goal
 
 pub loop-i-preserved-in_ok-map_err : goal.loop-i-preserved-in_ok-map_err
 loop-i-preserved-in_ok-map_err c =
     let inserted = at_ok _ c.insert.result (sym c.map_err.ensures.variant ∙ ap is_ok c.in_ok-map_err.was) c.insert.ensures.keys in
-    kept_maximal c.args.words.now c.loop-i.kept.keys c.insert.new.self.keys c.loop-i.i c.get-word.result.now c.len-i.ensures.words (omega arith) c.get-word.ensures
+    kept_more has_no_longer is_maximal_of maximal_longer
+    c.args.words.now c.loop-i.kept.keys c.insert.new.self.keys c.loop-i.i c.get-word.result.now c.len-i.ensures.words (omega arith) c.get-word.ensures
     (sym c.is_maximal.ensures ∙ c.if-is_maximal.true) c.loop-i.invariant (inserted ∙ ap (insert_key shortlex c.loop-i.kept.keys) c.copy.ensures)
 
 pub loop-i-preserved : goal.loop-i-preserved
 loop-i-preserved c =
-    kept_no_maximal c.args.words.now c.loop-i.kept.keys c.loop-i.i c.get-word.result.now c.len-i.ensures.words (omega arith) c.get-word.ensures
+    kept_same has_no_longer is_maximal_of maximal_longer
+    c.args.words.now c.loop-i.kept.keys c.loop-i.i c.get-word.result.now c.len-i.ensures.words (omega arith) c.get-word.ensures
     (sym c.is_maximal.ensures ∙ c.if-is_maximal.false) c.loop-i.invariant
