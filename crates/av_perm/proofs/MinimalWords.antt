@@ -52,7 +52,7 @@ not_alone test ws w e =
     (r.0, r.1, not-false (test r.0 w) f.1, λ q. let a : same r.0 w ≡ true = subst (λ y. same y w ≡ true) (sym q) (same_refl w) in cc)
 
 -- the words of a list that are alone in it, in shortlex order
-abbrev alone : (List ℕ → List ℕ → Bool) → List (List ℕ) → List (List ℕ)
+abbrev pub alone : (List ℕ → List ℕ → Bool) → List (List ℕ) → List (List ℕ)
 alone test ws = in_shortlex (filter (is_alone test ws) ws)
 
 -- they are of the list, and pass the test with none but themselves
@@ -68,7 +68,8 @@ In_alone : (test : List ℕ → List ℕ → Bool) (ws : List (List ℕ)) (w : L
 In_alone test ws w i h = In_shortlex (filter (is_alone test ws) ws) w (filter_In (is_alone test ws) ws w i (alone_to test ws w h))
 
 -- what is alone in a list is alone among such words of it
-alone_again : (test : List ℕ → List ℕ → Bool) (ws ks : List (List ℕ)) → Ascending shortlex ks → Each (λ w. In w (alone test ws)) ks → alone test ks ≡ ks
+pub alone_again : (test : List ℕ → List ℕ → Bool) (ws ks : List (List ℕ)) → Ascending shortlex ks → Each (λ w. In w (alone test ws)) ks
+    → alone test ks ≡ ks
 alone_again test ws ks a h = ascending_same shortlex shortlex_total (alone test ks) ks (shortlex_ascending (filter (is_alone test ks) ks)) a
     (λ w i. (alone_In test ks w i).0)
     (λ w i. In_alone test ks w i (λ v j t. (alone_In test ws w (h w i)).1 v (alone_In test ws v (h v j)).0 t))
@@ -130,13 +131,9 @@ maximal_list ws = record { members = maximal_is ws; once = shortlex_once (filter
 pub maximal_ascending : (ws : List (List ℕ)) → Ascending shortlex (maximal ws)
 maximal_ascending ws = shortlex_ascending (filter (is_alone contains ws) ws)
 
--- ascending words among the maximal ones are their own maximal words
-pub maximal_among : (ws ks : List (List ℕ)) → Ascending shortlex ks → Each (λ w. In w (maximal ws)) ks → maximal ks ≡ ks
-maximal_among = alone_again contains
-
 -- the maximal words of the maximal words are they
 pub maximal_again : (ws : List (List ℕ)) → maximal (maximal ws) ≡ maximal ws
-maximal_again ws = maximal_among ws (maximal ws) (maximal_ascending ws) (λ w i. i)
+maximal_again ws = alone_again contains ws (maximal ws) (maximal_ascending ws) (λ w i. i)
 
 -- a word that contains another is longer
 longer : (σ τ : List ℕ) → IsWord σ → IsWord τ → Contains σ τ → (σ ≡ τ → ⊥) → length τ < length σ

@@ -5,6 +5,7 @@ use Rattle.av_perm.specs.Members.{In, IsListOf, Ascending}
 use Rattle.av_perm.specs.Word.{shortlex}
 use Rattle.av_perm.specs.Lists.{same}
 use Rattle.av_perm.specs.WordOrder.{word_same, shortlex_total}
+use Rattle.av_perm.specs.Contain.{contains}
 use Rattle.av_perm.specs.Class.{maximal, top}
 use Rattle.av_perm.specs.Relations.{IsWord, AreWords, Contains}
 use Rattle.av_perm.specs.Laws.{IsTopIn, HasTop}
@@ -12,7 +13,7 @@ use Rattle.av_perm.proofs.Membership.{Each, In_filter, filter_In}
 use Rattle.av_perm.proofs.Tests.{not_from, not_to, same_refl}
 use Rattle.av_perm.proofs.Ascending.{ascending_same, ascending_filter, once_from_ascending}
 use Rattle.av_perm.proofs.Containment.{contains_one, contains_trans, contains_length}
-use Rattle.av_perm.proofs.MinimalWords.{words_each, each_words, maximal_is, maximal_ascending, maximal_among, has_maximal}
+use Rattle.av_perm.proofs.MinimalWords.{words_each, each_words, alone_again, maximal_is, maximal_ascending, has_maximal}
 
 -- the word 1
 abbrev pub one : List ℕ
@@ -68,7 +69,7 @@ top_long ws g w i = let t = (top_is ws w).0 i in other_long w (words_each ws g w
 
 -- the maximal words of these are they
 pub maximal_top : (ws : List (List ℕ)) → maximal (top ws) ≡ top ws
-maximal_top ws = maximal_among ws (top ws) (top_ascending ws) (λ w i. (In_filter is_other (maximal ws) w i).0)
+maximal_top ws = alone_again contains ws (top ws) (top_ascending ws) (λ w i. (In_filter is_other (maximal ws) w i).0)
 
 -- they are their own
 pub top_again : (ws : List (List ℕ)) → top (top ws) ≡ top ws
