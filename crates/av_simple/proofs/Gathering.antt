@@ -127,20 +127,19 @@ pub two_points_start : (basis : List (List ℕ)) (τ : List ℕ) (v : ℕ) (old 
 two_points_start basis τ v old = gathers_none basis (suc (suc (length τ))) (Before 1 (HasTwoPointsAt basis τ v)) old (λ w q s. let l = q.1 in let h = q.2.0 in absurd (omega (arith, l, h)))
 
 -- the words of a list have its length
-pub item_length : (basis ws : List (List ℕ)) (m i : ℕ) (w : List ℕ) → ws ≡ simples basis m → i < length ws → w ≡ get_or ws i w → length w ≡ m
-item_length basis ws m i w e h is = ((simples_are basis m w).0 (subst (λ l. In w l) e (subst (λ v. In v ws) (sym is) (In_at ws i w h)))).member.long
+pub item_length : (basis : List (List ℕ)) (m : ℕ) {us ws : List (List ℕ)} {i : ℕ} {w : List ℕ}
+    → us ≡ ws → ws ≡ simples basis m → i < length us → w ≡ get_or us i w → length w ≡ m
+item_length basis m {us} {ws} {i} {w} q e h is =
+    ((simples_are basis m w).0 (subst (λ l. In w l) (q ∙ e) (subst (λ v. In v us) (sym is) (In_at us i w h)))).member.long
 
--- the words that come from one of them
-pub of_item : (basis ws : List (List ℕ)) (n i : ℕ) (w : List ℕ) (old new : List (List ℕ)) → i < length ws → w ≡ get_or ws i w → suc (length w) ≡ n
-    → Gathers basis (suc (length w)) (HasPoint w) old new → Gathers basis n (HasPointOf ws i) old new
-of_item basis ws n i w old new h is e g = subst (λ k. Gathers basis k (HasPointOf ws i) old new) e
-    (gathers_part basis (suc (length w)) (HasPoint w) (HasPointOf ws i) old new g (λ u q. subst (λ τ. HasPoint τ u) (sym (is ∙ get_or_default ws i w [] h)) q))
-
-pub of_item_two : (basis ws : List (List ℕ)) (n i : ℕ) (w : List ℕ) (old new : List (List ℕ)) → i < length ws → w ≡ get_or ws i w → suc (suc (length w)) ≡ n
-    → Gathers basis (suc (suc (length w))) (HasTwoPoints basis w) old new → Gathers basis n (HasTwoPointsOf basis ws i) old new
-of_item_two basis ws n i w old new h is e g = subst (λ k. Gathers basis k (HasTwoPointsOf basis ws i) old new) e
-    (gathers_part basis (suc (suc (length w))) (HasTwoPoints basis w) (HasTwoPointsOf basis ws i) old new g
-    (λ u q. subst (λ τ. HasTwoPoints basis τ u) (sym (is ∙ get_or_default ws i w [] h)) q))
+-- what comes from one of the words
+pub of_item : (basis : List (List ℕ)) (m n : ℕ) (P : List ℕ → List ℕ → Type 0) {us ws : List (List ℕ)} {i k : ℕ} {w : List ℕ}
+    {old new : List (List ℕ)} → us ≡ ws → ws ≡ simples basis m → i < length us → w ≡ get_or us i w → (length w ≡ m → k ≡ n)
+    → Gathers basis k (P w) old new → Gathers basis n (P (get_or ws i [])) old new
+of_item basis m n P {us} {ws} {i} {k} {w} {old} {new} q e h is long g =
+    subst (λ j. Gathers basis j (P (get_or ws i [])) old new) (long (item_length basis m q e h is))
+    (gathers_part basis k (P w) (P (get_or ws i [])) old new g
+    (λ u. subst (λ τ. P τ u) (sym (is ∙ get_or_default us i w [] h ∙ ap (λ l. get_or l i []) q))))
 
 -- the simple words of one length ascend in shortlex order
 level_ascending : (basis : List (List ℕ)) (n : ℕ) → Ascending shortlex (simples basis n)
