@@ -163,19 +163,12 @@ raises y x = elim (cases_lt x y) [
 ]
 
 module _ (τ : List ℕ) (w : IsOneToLength τ) (v y : ℕ) (within : v ≤ length τ) (low : 1 ≤ y) (high : y ≤ suc (length τ)) where
-  raised : List ℕ
+  -- the entries of τ, those from y on one higher
+  abbrev raised : List ℕ
   raised = map (raised_from y) τ
 
-  raised_length : length raised ≡ length τ
-  unfolding raised
-  raised_length = length-map τ (raised_from y)
-
-  raised_is : (j : ℕ) → j < length τ → at raised j ≡ raised_from y (at τ j)
-  unfolding raised
-  raised_is j h = get_or-map (raised_from y) τ j 0 0 h
-
   longer_length : length (insert raised v y) ≡ suc (length τ)
-  longer_length = omega (arith, length-insert raised v y (omega (arith, within, raised_length)), raised_length)
+  longer_length = omega (arith, length-insert raised v y (omega (arith, within, length-map τ (raised_from y))), length-map τ (raised_from y))
 
   -- what stands at a place: the new entry, or an old one
   abbrev Stands : ℕ → Type 0
@@ -183,15 +176,18 @@ module _ (τ : List ℕ) (w : IsOneToLength τ) (v y : ℕ) (within : v ≤ leng
 
   stands : (k : ℕ) → k < length (insert raised v y) → Stands k
   stands k h =
-      let vl : v ≤ length raised = omega (arith, within, raised_length) in
+      let vl : v ≤ length raised = omega (arith, within, length-map τ (raised_from y)) in
       elim (cases_lt k v) [
-        | inl l ↦ inr (k, omega (arith, l, within), omega (arith, skips v k, l), get_or-insert_below raised v y 0 k l vl ∙ raised_is k (omega (arith, l, within)))
+        | inl l ↦
+            let j : k < length τ = omega (arith, l, within) in
+            inr (k, j, omega (arith, skips v k, l), get_or-insert_below raised v y 0 k l vl ∙ get_or-map (raised_from y) τ k 0 0 j)
         | inr g ↦ elim (cases_eq k v) [
           | inl e ↦ inl (e, ap (at (insert raised v y)) e ∙ get_or-insert_at raised v y 0 vl)
           | inr ne ↦
               let o : k ≡ (k - 1) + 1 = omega (arith, g, ne) in
               let j : k - 1 < length τ = omega (arith, h, longer_length, g, ne) in
-              inr (k - 1, j, omega (arith, skips v (k - 1), g, ne), ap (at (insert raised v y)) o ∙ get_or-insert_above raised v y 0 (k - 1) (omega (arith, g, ne)) vl ∙ raised_is (k - 1) j)
+              let q = get_or-insert_above raised v y 0 (k - 1) (omega (arith, g, ne)) vl in
+              inr (k - 1, j, omega (arith, skips v (k - 1), g, ne), ap (at (insert raised v y)) o ∙ q ∙ get_or-map (raised_from y) τ (k - 1) 0 0 j)
         ]
       ]
 
@@ -211,12 +207,10 @@ module _ (τ : List ℕ) (w : IsOneToLength τ) (v y : ℕ) (within : v ≤ leng
 
   -- a word with one more point is a word
   pub inserted_word : IsOneToLength (insert_point τ v y)
-  unfolding raised
   inserted_word = record {
     within = λ k h. stands_within k (stands k h);
     apart = λ s t l h e. absurd (omega (arith, l, stands_apart s t (stands s (omega (arith, l, h))) (stands t h) e));
   }
 
   pub inserted_length : length (insert_point τ v y) ≡ suc (length τ)
-  unfolding raised
   inserted_length = longer_length
