@@ -22,7 +22,8 @@ use Rattle.av_build.specs.Canonical.{same_sign}
 use Rattle.av_build.proofs.NameNumbers.{sign_refl}
 use Rattle.av_perm.proofs.Pointwise.{beside}
 use Rattle.av_perm.proofs.ListLaws.{get_In}
-use Rattle.av_build.proofs.RootedTerms.{Rooted, rooted, drafts_of, drafts_are, node_parts, root_draft_In, point_is, DraftCases, draft_cases}
+use Rattle.av_build.proofs.RootedTerms.{Rooted, rooted, drafts_of, drafts_are}
+use Rattle.av_build.proofs.DraftMeanings.{root_draft_is}
 use Rattle.av_build.proofs.DraftsApart.{Distinct, rooted_distinct}
 use Rattle.av_build.proofs.TermsStand.{Numbered, Stands, AllStand}
 use Rattle.av_build.proofs.Growing.{NameAt, In_get}
@@ -97,18 +98,13 @@ record IsRightNode (simples : List (List ℕ)) (n : Name) (root : List ℕ) (ns 
   signed : are_signed (first_sign root) ns ≡ true
 
 node_right : (simples : List (List ℕ)) (n : Name) (root : List ℕ) (ns : List Name) → Each IsSimple simples → In (node root ns) (drafts simples n) → IsRightNode simples n root ns
-node_right simples n root ns g i = by (draft_cases simples n (node root ns) i)
-  where
-    by : DraftCases simples n (node root ns) → IsRightNode simples n root ns
-    by (inl j) = absurd (let e = point_is n (node root ns) j in cc)
-    by (inr r) =
-        let q = root_draft_In r.0.first n r.0.root (node root ns) r.2 in
-        let e = node_parts root r.0.root ns (child_names r.0.first q.0) q.2 in
-        let first : r.0.first ≡ first_sign root = rooted_sign simples n.sign r.0 g r.1 ∙ ap first_sign (sym e.0) in
-        record {
-          listed = subst (λ π. In π (roots_for n.sign simples)) (sym e.0) (rooted_listed simples n.sign r.0 r.1);
-          signed = subst (λ l. are_signed (first_sign root) l ≡ true) (sym e.1) (subst (λ s. are_signed s (child_names r.0.first q.0) ≡ true) first (names_signed r.0.first q.0));
-        }
+node_right simples n root ns g i =
+    let r = root_draft_is simples n root ns g i in
+    let one : Rooted = record { first = r.first; root = root } in
+    record {
+      listed = rooted_listed simples n.sign one r.among;
+      signed = rw (r.names, ← rooted_sign simples n.sign one g r.among) (names_signed r.first r.box);
+    }
 
 -- the names of the drafts with a root
 abbrev names_of_drafts : List ℕ → List Draft → List (List Name)
