@@ -5,15 +5,14 @@ use Rattle.std.proofs.lemmas.List.{append_cancel_left}
 use Rattle.av_perm.specs.Members.{In}
 use Rattle.av_perm.proofs.Membership.{append_right}
 use Rattle.av_sys.specs.declared.names.Sign.{Sign}
-use Rattle.av_sys.specs.declared.names.Sign.TheVariants.{C, P, M}
 use Rattle.av_sys.specs.declared.terms.Equation.{Equation}
 use Rattle.av_print.specs.Text.{word_text}
-use Rattle.av_print.specs.Systems.{number_text, sign_text}
-use Rattle.av_print.proofs.UniqueReading.{begins_apart, bytes_apart, numeral_once}
+use Rattle.av_print.specs.Systems.{number_text}
+use Rattle.av_print.proofs.UniqueReading.{begins_apart, numeral_once}
 use Rattle.av_print.proofs.ReadWords.{word_begins}
 use Rattle.av_text.specs.Ranges.{IsPattern}
 use Rattle.av_check.specs.Claims.{ArePatterns}
-use Rattle.av_check.specs.Reading.{list_tokens, terms_tokens, made_tokens, named_tokens, equation_tokens, IsEquationOf, IsSignedEquation, IsAvoidingEquation}
+use Rattle.av_check.specs.Reading.{list_tokens, terms_tokens, made_tokens, named_tokens, IsSignedEquation, IsAvoidingEquation}
 use Rattle.av_check.proofs.Lists.{list_lacks}
 use Rattle.av_check.proofs.ReadAs.{SameReadings}
 use Rattle.av_check.proofs.RootTexts.{pattern_short}
@@ -106,32 +105,7 @@ pub no_terms : (tokens : List (List ℕ)) (e : Equation) → (In (codes "=") tok
 no_terms tokens e lacks f =
     lacks (subst (λ (l : List (List ℕ)). In (codes "=") l) (sym f) (append_right (list_tokens e.name.require) (codes "=" ∷ terms_tokens e.terms) (codes "=") (inl refl)))
 
--- numbers of equations with the same text are equal, and so are signs
+-- numbers of equations with the same text are equal
 pub number_text_once : (m n : ℕ) → m < 2 ^ 32 → n < 2 ^ 32 → number_text m ≡ number_text n → m ≡ n
 unfolding number_text
 number_text_once m n few less e = numeral_once m n (omega arith) (omega arith) (append_cancel_left (codes "E") _ _ e)
-
-sign_once : (s r : Sign) → sign_text s ≡ sign_text r → s ≡ r
-sign_once C C e = refl
-sign_once C P e = absurd (bytes_apart _ _ [] [] e refl)
-sign_once C M e = absurd (bytes_apart _ _ [] [] e refl)
-sign_once P C e = absurd (bytes_apart _ _ [] [] e refl)
-sign_once P P e = refl
-sign_once P M e = absurd (bytes_apart _ _ [] [] e refl)
-sign_once M C e = absurd (bytes_apart _ _ [] [] e refl)
-sign_once M P e = absurd (bytes_apart _ _ [] [] e refl)
-sign_once M M e = refl
-
--- an equation by its number, its sign and the other tokens
-pub signed_same : (count u : ℕ) (sign : Sign) (first second third : List ℕ) (others : List (List ℕ)) → first ≡ number_text u → second ≡ sign_text sign → third ≡ codes "avoid"
-    → SameReadings (IsSignedEquation count sign) (IsEquationOf count) named_tokens others (equation_tokens u) (first ∷ second ∷ third ∷ others)
-signed_same count u sign first second third others f s t = record {
-  to = λ e p is. (p.equation, all e p is);
-  from = λ e p is. (
-    record { equation = p; signed = let h : second ≡ sign_text e.name.sign = cc in sign_once e.name.sign sign (sym h ∙ s) },
-    cc,
-  );
-}
-  where
-    all : (e : Equation) → IsSignedEquation count sign e → others ≡ named_tokens e → first ∷ second ∷ third ∷ others ≡ equation_tokens u e
-    all e p is = let g = ap sign_text p.signed in cc

@@ -87,10 +87,6 @@ module _ (f : Leaf Box → Option Flaw) (root : List ℕ) where
       ap (λ k. Some (faults.Cell root k flaw)) h.number_is
       ∙ sym (ap (λ o. first_of (cell_fault root h.gone o) (first_leaf f root (suc h.gone) rest)) some) ∙ sym (ap (first_leaf f root h.gone) e) ∙ h.first
 
-  -- and none where none is left
-  pub left_none : (all left : List (Leaf Box)) (number : ℕ) → left ≡ [] → IsLeft f root all left number → None ≡ first_leaf f root 0 all
-  left_none all left number e h = sym (ap (first_leaf f root h.gone) e) ∙ h.first
-
 -- a root of a system is a word, and no longer than ten entries
 pub root_word : (root : List ℕ) → IsSystemRoot root → IsWord root × (2 ≤ length root) × (length root ≤ 10)
 root_word root (inl e) = (subst IsWord (sym e) (word_from (1 ∷ 2 ∷ []) refl), let n = ap length e in omega arith, let n = ap length e in omega arith)

@@ -31,10 +31,6 @@ pub record HaveRead {V : Type 0} (P : V → Type 0) (text : V → List ℕ) (don
   pub each : Each P done
   pub same : map text done ≡ bytes (take i ts)
 
--- none at first
-pub read_first : {V : Type 0} (P : V → Type 0) (text : V → List ℕ) (ts : List (Bor (List ℕ))) → HaveRead P text [] ts 0
-read_first P text ts = record { each = λ x i. absurd i; same = refl }
-
 -- one value more
 pub read_more : {V : Type 0} {P : V → Type 0} {text : V → List ℕ} {done : List V} {ts : List (Bor (List ℕ))} {i : ℕ} (d : Bor (List ℕ)) (v : V) → i < length ts
     → P v → (get_or ts i d).now ≡ text v → HaveRead P text done ts i → HaveRead P text (done ++ v ∷ []) ts (i + 1)

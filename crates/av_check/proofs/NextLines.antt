@@ -10,16 +10,10 @@ none_after ls e = e ∙ sym (ap (drop 1) e)
 pub next_is : (P : List ℕ → Type 0) (ls : List (List ℕ)) (l : List ℕ) (rest : List (List ℕ)) → ls ≡ l ∷ rest → P l → FirstIs P ls
 next_is P ls l rest e p = subst (FirstIs P) (sym e) p
 
-pub next_was : (P : List ℕ → Type 0) (ls : List (List ℕ)) (l : List ℕ) (rest : List (List ℕ)) → ls ≡ l ∷ rest → FirstIs P ls → P l
-next_was P ls l rest e f = subst (FirstIs P) e f
-
 pub none_next : (P : List ℕ → Type 0) (ls : List (List ℕ)) → ls ≡ [] → FirstIs P ls → ⊥
 none_next P ls e f = subst (FirstIs P) e f
 
--- it is passed, or isn't
+-- it is passed
 pub passes_one : (P : List ℕ → Type 0) (old new : List (List ℕ)) → FirstIs P old → new ≡ drop 1 old → Passes P old new
 passes_one P [] new f e = absurd f
 passes_one P (l ∷ ls) new f e = record { passed = l ∷ []; cut = ap (λ (r : List (List ℕ)). l ∷ r) (sym e); is = f }
-
-pub passes_none : (P : List ℕ → Type 0) (old new : List (List ℕ)) → (FirstIs P old → ⊥) → new ≡ old → Passes P old new
-passes_none P old new n e = record { passed = []; cut = sym e; is = subst (λ (l : List (List ℕ)). FirstIs P l → ⊥) (sym e) n }

@@ -4,7 +4,7 @@ use Rattle.av_perm.proofs.Membership.{In_one, In_append_cases}
 use Rattle.av_sys.specs.declared.terms.Equation.{Equation}
 use Rattle.av_check.specs.declared.reading.announced.Counts.{Counts}
 use Rattle.av_check.specs.Claims.{IsOptional, TellsWords, TellsRequired, TellsCounts, AreEquationLines}
-use Rattle.av_check.specs.Reading.{FirstIs, IsPassed, Passes, TakesLine, IsEquationOf, TellsEquation, TellsTheseCounts, TakesEquations, StopsAtEquation, IsVersion, IsUnion, IsSimplesLine, IsGapLine, StopsAtBasis, IsWithoutRequired, TakesFirst, StopsAtCounts, TakesCounts}
+use Rattle.av_check.specs.Reading.{FirstIs, IsPassed, Passes, TakesLine, IsEquationOf, TellsEquation, TellsTheseCounts, TakesEquations, StopsAtEquation, IsVersion, IsUnion, IsSimplesLine, IsGapLine, StopsAtBasis, IsWithoutRequired, TakesFirst, StopsAtCounts}
 
 -- what was passed is at most one line of the kind
 pub passed_optional : (P : List ℕ → Type 0) (passed left : List (List ℕ)) → IsPassed P passed left → IsOptional P passed
@@ -32,9 +32,6 @@ equations_more count number es e old mid new is takes (line, cut, tells) = recor
     | inr b ↦ subst (IsEquationOf count) (sym (In_one x e b)) tells.equation
   ];
 }
-
-pub equations_none : (count : ℕ) (lines : List (List ℕ)) → TakesEquations count [] lines lines
-equations_none count lines = record { taken = []; cut = refl; lines = tt; each = λ x i. absurd i }
 
 pub equations_stop : (count number : ℕ) (es : List Equation) (old mid new : List (List ℕ)) → number ≡ length es → number < count → TakesEquations count es old mid
     → TakesLine (TellsEquation count number) mid new None → StopsAtEquation count old new
@@ -116,16 +113,4 @@ stops_at_counts a b c d s g none = record {
   is_simples = subst (IsPassed IsSimplesLine s.passed) (g.cut ∙ ap (λ (l : List (List ℕ)). g.passed ++ l) (sym none.0)) s.is;
   is_gap = subst (IsPassed IsGapLine g.passed) (sym none.0) g.is;
   none = λ x y f. let t = first_told x y d f in none.1 t.0 (subst (FirstIs (TellsTheseCounts t.0)) none.0 t.1);
-}
-
-pub takes_counts : (k : Counts) (a b c d : List (List ℕ)) → Passes IsSimplesLine a b → Passes IsGapLine b c → TakesLine TellsTheseCounts c d (Some k)
-    → TakesCounts k.equations k.terms a d
-takes_counts k a b c d s g (line, cut, tells) = record {
-  simples = s.passed;
-  gap = g.passed;
-  counts = line;
-  cut = s.cut ∙ ap (λ (l : List (List ℕ)). s.passed ++ l) (g.cut ∙ ap (λ (l : List (List ℕ)). g.passed ++ l) cut);
-  is_simples = passed_optional IsSimplesLine s.passed b s.is;
-  is_gap = passed_optional IsGapLine g.passed c g.is;
-  are_counts = record { version = k.version; known = tells.are.known; some = tells.are.some; few = tells.are.few; text = tells.text };
 }

@@ -1,10 +1,10 @@
 -- The texts of terms, cut into pieces and joined again.
-use Rattle.std.proofs.Common.{◌≡◌, ◌⊎◌, inl, inr, ℕ, ◌<◌, ◌≤◌, Bool, true, false, not, ◌==◌, List, [], ◌∷◌, ◌++◌, map, flat_map, length, codes, decimal, refl, sym, ap, ap₂, subst, ◌∙◌, append_assoc, arith}
+use Rattle.std.proofs.Common.{◌≡◌, ◌⊎◌, inl, inr, ℕ, ◌<◌, ◌≤◌, Bool, true, false, not, ◌==◌, List, [], ◌∷◌, ◌++◌, map, flat_map, length, codes, decimal, refl, sym, ap, subst, ◌∙◌, append_assoc, arith}
 use Rattle.std.specs.Char.{is_ascii_digit}
 use Rattle.std.specs.List.{list_all, slice_split, join_with_byte}
 use Rattle.std.proofs.lemmas.Bool.{and_from, cases_lt}
 use Rattle.std.proofs.lemmas.Bool.Decides.{nat_tests}
-use Rattle.std.proofs.lemmas.List.{length-map, length-append, append_cancel_right}
+use Rattle.std.proofs.lemmas.List.{length-map, length-append}
 use Rattle.std.proofs.lemmas.Grind.{flat_map-append}
 use Rattle.std.proofs.lemmas.List.Splits.{length-slice_split}
 use Rattle.av_perm.proofs.Membership.{In_one, In_append_cases, In_map}
@@ -100,12 +100,7 @@ first_same a b c d e = (cc, cc)
 node_some : (count : ℕ) (r cs : List ℕ) → IsNodeOf count r cs → AreChildren count cs
 node_some count r cs is = record { some = omega (arith, is.count, (system_root r is.rooted).word.filled); numbers = is.numbers }
 
--- texts of which the first is that of no root, or the second of no children, are those of no node
-pub no_root : (count : ℕ) (root children : List ℕ) → ((w : List ℕ) → IsSystemRoot w → root ≡ root_text w → ⊥)
-    → (t : Term) → IsNodeTerm count t → root ∷ children ∷ [] ≡ root_part t ∷ children_part t ∷ [] → ⊥
-no_root count root children none Point is e = is
-no_root count root children none (Node r cs) is e = none r is.rooted (first_same root children _ _ e).0
-
+-- texts of which the second is that of no children are those of no node
 pub no_children : (count : ℕ) (root children : List ℕ) → ((cs : List ℕ) → AreChildren count cs → children ≡ children_text cs → ⊥)
     → (t : Term) → IsNodeTerm count t → root ∷ children ∷ [] ≡ root_part t ∷ children_part t ∷ [] → ⊥
 no_children count root children none Point is e = is
@@ -119,19 +114,6 @@ not_as_many count root children r cs rooted is are was unlike (Node q ds) node e
     let f = first_same root children _ _ e in
     let same = root_once r q (root_pattern r rooted) (root_pattern q node.rooted) (sym is ∙ f.0) in
     unlike (children_count cs ds are.some (node_some count q ds node).some (sym was ∙ f.1) ∙ node.count ∙ sym (ap length same))
-
--- a node, before the closing bracket and with it
-pub closed_same : (count : ℕ) (root rest children : List ℕ) → rest ≡ children ++ codes "]"
-    → SameReadings (IsNodeTerm count) (IsNodeTerm count) (λ t. root_part t ∷ children_part t ∷ []) (root ∷ children ∷ [])
-    (λ t. root_part t ∷ (children_part t ++ codes "]") ∷ []) (root ∷ rest ∷ [])
-closed_same count root rest children is = record {
-  to = λ t node e.
-      let f = first_same root children (root_part t) (children_part t) e in
-      (node, ap₂ (λ a b. a ∷ b ∷ []) f.0 (is ∙ ap (λ (s : List ℕ). s ++ codes "]") f.1));
-  from = λ t node e.
-      let f = first_same root rest (root_part t) (children_part t ++ codes "]") e in
-      (node, ap₂ (λ a b. a ∷ b ∷ []) f.0 (append_cancel_right _ _ (codes "]") (sym is ∙ f.1)));
-}
 
 -- no opening square bracket
 abbrev no_opening : ℕ → Bool
@@ -169,9 +151,6 @@ term_same count token ps is none = record { to = λ t. to t; from = λ t. from t
 pub record HaveBars (count : ℕ) (done : List Term) (left tokens : List (List ℕ)) : Type 0 where
   pub each : AreTermsOf count done
   pub same : flat_map (λ t. term_text t ∷ codes "|" ∷ []) done ++ left ≡ tokens
-
-pub bars_first : (count : ℕ) (tokens : List (List ℕ)) → HaveBars count [] tokens tokens
-bars_first count tokens = record { each = λ t i. absurd i; same = refl }
 
 -- one more
 pub bars_more : {count : ℕ} {done : List Term} {left tokens : List (List ℕ)} (t : Term) (rest : List (List ℕ)) → IsTermOf count t
