@@ -1,5 +1,5 @@
 -- The texts of terms, cut into pieces and joined again.
-use Rattle.std.proofs.Common.{◌≡◌, ◌⊎◌, inl, inr, ℕ, ◌<◌, ◌≤◌, Bool, true, false, not, ◌==◌, List, [], ◌∷◌, ◌++◌, map, flat_map, length, codes, decimal, refl, sym, ap, subst, ◌∙◌, append_assoc, arith}
+use Rattle.std.proofs.Common.{◌≡◌, ◌⊎◌, inl, inr, ℕ, ◌<◌, ◌≤◌, Bool, true, false, ◌==◌, List, [], ◌∷◌, ◌++◌, map, flat_map, length, codes, decimal, refl, sym, ap, subst, ◌∙◌, append_assoc, arith}
 use Rattle.std.specs.Char.{is_ascii_digit}
 use Rattle.std.specs.List.{list_all, slice_split, join_with_byte}
 use Rattle.std.proofs.lemmas.Bool.{and_from, cases_lt}
@@ -18,7 +18,7 @@ use Rattle.av_print.proofs.ReadSystems.{system_root}
 use Rattle.av_print.proofs.Tokens.{pass_wider, pass_joined, pass_both}
 use Rattle.av_print.proofs.NumberTokens.{numeral_digits}
 use Rattle.av_check.specs.Reading.{AreNumbers, AreChildren, IsNodeTerm, root_part, children_part, AreTermsOf, AreSomeTerms, barred_tokens, terms_tokens}
-use Rattle.av_check.proofs.Joins.{Pass, join_items, cut_joined, pieces_joined, joined_pieces}
+use Rattle.av_check.proofs.Joins.{Pass, join_items, is_other, cut_joined, pieces_joined, joined_pieces}
 use Rattle.av_check.proofs.ReadAs.{SameReadings}
 use Rattle.av_check.proofs.RootTexts.{root_pattern, root_once}
 
@@ -53,19 +53,15 @@ pub children_pass : (p : ℕ → Bool) → ((c : ℕ) → is_ascii_digit c ≡ t
 unfolding children_text
 children_pass p digit e comma cs = pass_joined p number_text (codes ",") (number_pass p digit e) (and_from (p 44) true comma refl) cs
 
--- no comma
-abbrev no_comma : ℕ → Bool
-no_comma c = not (c == 44)
+-- a digit is another byte than one that is none
+digit_other : (byte : ℕ) → is_ascii_digit byte ≡ false → (c : ℕ) → is_ascii_digit c ≡ true → is_other byte c ≡ true
+digit_other byte none c e = grind (arith, nat_tests)
 
-no_comma_apart : (c : ℕ) → no_comma c ≡ true → (c == 44) ≡ false
-no_comma_apart c e = grind (arith, nat_tests)
-
-digit_no_comma : (c : ℕ) → is_ascii_digit c ≡ true → no_comma c ≡ true
-digit_no_comma c e = grind (arith, nat_tests)
-
--- the texts of children have none
-numbers_pass : (cs : List ℕ) → Pass no_comma (map number_text cs)
-numbers_pass cs t i = let m = In_map number_text cs t i in subst (λ (s : List ℕ). list_all no_comma s ≡ true) (sym m.2) (number_pass no_comma digit_no_comma refl m.0)
+-- the texts of children have no comma
+numbers_pass : (cs : List ℕ) → Pass (is_other 44) (map number_text cs)
+numbers_pass cs t i =
+    let m = In_map number_text cs t i in
+    subst (λ (s : List ℕ). list_all (is_other 44) s ≡ true) (sym m.2) (number_pass (is_other 44) (digit_other 44 refl) refl m.0)
 
 children_joined : (cs : List ℕ) → children_text cs ≡ join_with_byte 44 (map number_text cs)
 unfolding children_text
@@ -74,7 +70,7 @@ children_joined cs = join_items number_text 44 cs
 children_cut : (cs : List ℕ) → 0 < length cs → slice_split (λ b. b == 44) (children_text cs) ≡ map number_text cs
 children_cut cs some =
     ap (slice_split (λ b. b == 44)) (children_joined cs)
-    ∙ cut_joined no_comma 44 no_comma_apart (map number_text cs) (omega (arith, length-map cs number_text)) (numbers_pass cs)
+    ∙ cut_joined 44 (map number_text cs) (omega (arith, length-map cs number_text)) (numbers_pass cs)
 
 -- the pieces of a text are those of children where it is their text
 pub children_same : (count : ℕ) (text : List ℕ) (ps : List (List ℕ)) → ps ≡ slice_split (λ b. b == 44) text
@@ -115,22 +111,13 @@ not_as_many count root children r cs rooted is are was unlike (Node q ds) node e
     let same = root_once r q (root_pattern r rooted) (root_pattern q node.rooted) (sym is ∙ f.0) in
     unlike (children_count cs ds are.some (node_some count q ds node).some (sym was ∙ f.1) ∙ node.count ∙ sym (ap length same))
 
--- no opening square bracket
-abbrev no_opening : ℕ → Bool
-no_opening c = not (c == 91)
-
-no_opening_apart : (c : ℕ) → no_opening c ≡ true → (c == 91) ≡ false
-no_opening_apart c e = grind (arith, nat_tests)
-
-digit_no_opening : (c : ℕ) → is_ascii_digit c ≡ true → no_opening c ≡ true
-digit_no_opening c e = grind (arith, nat_tests)
-
--- the two pieces of a node's text
-node_pass : (r cs : List ℕ) → Pass no_opening (root_text r ∷ (children_text cs ++ codes "]") ∷ [])
-node_pass r cs t (inl e) = subst (λ (s : List ℕ). list_all no_opening s ≡ true) (sym e) (root_pass no_opening digit_no_opening refl refl refl r)
+-- the two pieces of a node's text have no opening square bracket
+node_pass : (r cs : List ℕ) → Pass (is_other 91) (root_text r ∷ (children_text cs ++ codes "]") ∷ [])
+node_pass r cs t (inl e) =
+    subst (λ (s : List ℕ). list_all (is_other 91) s ≡ true) (sym e) (root_pass (is_other 91) (digit_other 91 refl) refl refl refl r)
 node_pass r cs t (inr (inl e)) =
-    subst (λ (s : List ℕ). list_all no_opening s ≡ true) (sym e)
-    (pass_both no_opening (children_text cs) (codes "]") (children_pass no_opening digit_no_opening refl refl cs) refl)
+    subst (λ (s : List ℕ). list_all (is_other 91) s ≡ true) (sym e)
+    (pass_both (is_other 91) (children_text cs) (codes "]") (children_pass (is_other 91) (digit_other 91 refl) refl refl cs) refl)
 node_pass r cs t (inr (inr i)) = absurd i
 
 -- a token that isn't the point is a term's text where its pieces are those of a node
@@ -145,7 +132,7 @@ term_same count token ps is none = record { to = λ t. to t; from = λ t. from t
 
     from : (t : Term) → IsTermOf count t → token ≡ term_text t → IsNodeTerm count t × (ps ≡ root_part t ∷ (children_part t ++ codes "]") ∷ [])
     from Point term e = absurd (none e)
-    from (Node r cs) term e = (term, is ∙ joined_pieces no_opening 91 no_opening_apart token _ (omega arith) (node_pass r cs) e)
+    from (Node r cs) term e = (term, is ∙ joined_pieces 91 token _ (omega arith) (node_pass r cs) e)
 
 -- terms with a bar after each, in front of tokens that are left
 pub record HaveBars (count : ℕ) (done : List Term) (left tokens : List (List ℕ)) : Type 0 where

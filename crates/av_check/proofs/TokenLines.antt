@@ -1,5 +1,5 @@
 -- A line cut at spaces has the tokens of a value exactly where it is the text of the value.
-use Rattle.std.proofs.Common.{◌≡◌, inl, inr, ℕ, ◌<◌, Bool, true, false, not, ◌==◌, List, [], ◌∷◌, ◌++◌, map, length, codes, decimal, refl, sym, ap, ap₂, subst, ◌∙◌, append_assoc, append-nil, arith}
+use Rattle.std.proofs.Common.{◌≡◌, inl, inr, ℕ, ◌<◌, true, ◌==◌, List, [], ◌∷◌, ◌++◌, map, length, codes, decimal, refl, sym, ap, ap₂, subst, ◌∙◌, append_assoc, append-nil, arith}
 use Rattle.std.specs.Char.{is_ascii_digit}
 use Rattle.std.specs.List.{list_all, join_by, slice_split, join_with_byte}
 use Rattle.std.proofs.lemmas.Bool.Decides.{nat_tests}
@@ -16,7 +16,7 @@ use Rattle.av_print.proofs.Tokens.{pass_wider, is_token_byte, pass_both}
 use Rattle.av_print.proofs.NumberTokens.{numeral_digits, digit_in_token}
 use Rattle.av_check.specs.declared.reading.announced.Counts.{Counts}
 use Rattle.av_check.specs.Reading.{list_tokens, barred_tokens, terms_tokens, made_tokens, named_tokens, equation_tokens, counts_tokens, counts_line, IsEquationOf, IsFewPatterns, AreCounts}
-use Rattle.av_check.proofs.Joins.{Pass, join_before, join_append, pieces_joined, joined_pieces}
+use Rattle.av_check.proofs.Joins.{Pass, join_before, join_append, pieces_joined, is_other, joined_pieces}
 use Rattle.av_check.proofs.Lists.{list_some, list_joined}
 use Rattle.av_check.proofs.ReadAs.{SameReadings}
 use Rattle.av_check.proofs.Terms.{number_pass, word_pass, root_pass, children_pass}
@@ -77,19 +77,12 @@ equation_pass u e =
     (pass_cons (codes "avoid") (named_tokens e) refl
     (pass_append (list_tokens e.name.avoid) (codes "require" ∷ made_tokens e) (list_pass e.name.avoid) (pass_cons (codes "require") (made_tokens e) refl (made_pass e)))))
 
--- no space
-abbrev pub no_space : ℕ → Bool
-no_space c = not (c == 32)
-
-no_space_apart : (c : ℕ) → no_space c ≡ true → (c == 32) ≡ false
-no_space_apart c e = grind (arith, nat_tests)
-
-token_no_space : (c : ℕ) → is_token_byte c ≡ true → no_space c ≡ true
+-- tokens have no space
+token_no_space : (c : ℕ) → is_token_byte c ≡ true → is_other 32 c ≡ true
 token_no_space c e = grind (arith, nat_tests)
 
--- tokens have none
-solid : (ts : List (List ℕ)) → Pass is_token_byte ts → Pass no_space ts
-solid ts p t i = pass_wider is_token_byte no_space token_no_space t (p t i)
+solid : (ts : List (List ℕ)) → Pass is_token_byte ts → Pass (is_other 32) ts
+solid ts p t i = pass_wider is_token_byte (is_other 32) token_no_space t (p t i)
 
 -- there are some terms' tokens
 barred_some : (t : Term) (ts : List Term) → 0 < length (barred_tokens (t ∷ ts))
@@ -136,11 +129,11 @@ named_joined e =
 -- the pieces of a line are tokens where it is their text
 pub line_same : {V : Type 0} (Q : V → Type 0) (tokens : V → List (List ℕ)) (text : V → List ℕ) (line : List ℕ) (ps : List (List ℕ))
     → ps ≡ slice_split (λ b. b == 32) line → ((v : V) → join_with_byte 32 (tokens v) ++ codes "\n" ≡ text v)
-    → ((v : V) → 0 < length (tokens v)) → ((v : V) → Pass no_space (tokens v))
+    → ((v : V) → 0 < length (tokens v)) → ((v : V) → Pass (is_other 32) (tokens v))
     → SameReadings Q Q tokens ps text (line ++ codes "\n")
 line_same Q tokens text line ps is joined some pass = record {
   to = λ v q e. (q, ap (λ (t : List ℕ). t ++ codes "\n") (pieces_joined 32 line (tokens v) (sym is ∙ e)) ∙ joined v);
-  from = λ v q e. (q, is ∙ joined_pieces no_space 32 no_space_apart line (tokens v) (some v) (pass v) (append_cancel_right _ _ (codes "\n") (e ∙ sym (joined v))));
+  from = λ v q e. (q, is ∙ joined_pieces 32 line (tokens v) (some v) (pass v) (append_cancel_right _ _ (codes "\n") (e ∙ sym (joined v))));
 }
 
 -- the line of an equation, regrouped
@@ -201,11 +194,11 @@ words_joined key ws =
     ap (λ (t : List ℕ). t ++ codes "\n") (join_before 32 key (list_tokens ws) (list_some ws) ∙ ap (λ (t : List ℕ). key ++ 32 ∷ t) (sym (list_joined ws)))
     ∙ group_words key (words_text ws)
 
-pub words_same : (key line : List ℕ) (ps : List (List ℕ)) → list_all no_space key ≡ true → ps ≡ slice_split (λ b. b == 32) line
+pub words_same : (key line : List ℕ) (ps : List (List ℕ)) → list_all (is_other 32) key ≡ true → ps ≡ slice_split (λ b. b == 32) line
     → SameReadings IsFewPatterns IsFewPatterns (λ ws. key ∷ list_tokens ws) ps (λ ws. key ++ (codes " " ++ (words_text ws ++ codes "\n"))) (line ++ codes "\n")
 words_same key line ps spaceless is =
     line_same IsFewPatterns (λ ws. key ∷ list_tokens ws) _ line ps is (words_joined key) (λ ws. omega arith) (λ ws. keyed ws)
   where
-    keyed : (ws : List (List ℕ)) → Pass no_space (key ∷ list_tokens ws)
-    keyed ws t (inl e) = subst (λ (u : List ℕ). list_all no_space u ≡ true) (sym e) spaceless
+    keyed : (ws : List (List ℕ)) → Pass (is_other 32) (key ∷ list_tokens ws)
+    keyed ws t (inl e) = subst (λ (u : List ℕ). list_all (is_other 32) u ≡ true) (sym e) spaceless
     keyed ws t (inr i) = solid (list_tokens ws) (list_pass ws) t i
