@@ -12,6 +12,10 @@ passed_optional P [] left p = tt
 passed_optional P (l ∷ []) left p = p
 passed_optional P (l ∷ m ∷ ls) left p = p
 
+-- all lines are those that were passed and those that are left
+pass_cut : {P : List ℕ → Type 0} {old mid new : List (List ℕ)} (p : Passes P old mid) → mid ≡ new → old ≡ p.passed ++ new
+pass_cut {P} {old} {mid} {new} p e = p.cut ∙ ap (λ (l : List (List ℕ)). p.passed ++ l) e
+
 -- the lines of two lists of equations, the second numbered from the end of the first on
 pub lines_append : (u v : ℕ) (es fs : List Equation) (ls ms : List (List ℕ)) → v ≡ u + length es → AreEquationLines u es ls → AreEquationLines v fs ms
     → AreEquationLines u (es ++ fs) (ls ++ ms)
@@ -47,8 +51,8 @@ pub stops_at_basis : (a b c d : List (List ℕ)) → Passes IsVersion a b → Pa
 stops_at_basis a b c d v u none = record {
   version = v.passed;
   union = u.passed;
-  cut = v.cut ∙ ap (λ (l : List (List ℕ)). v.passed ++ l) (u.cut ∙ ap (λ (l : List (List ℕ)). u.passed ++ l) (sym none.0));
-  is_version = subst (IsPassed IsVersion v.passed) (u.cut ∙ ap (λ (l : List (List ℕ)). u.passed ++ l) (sym none.0)) v.is;
+  cut = pass_cut v (pass_cut u (sym none.0));
+  is_version = subst (IsPassed IsVersion v.passed) (pass_cut u (sym none.0)) v.is;
   is_union = subst (IsPassed IsUnion u.passed) (sym none.0) u.is;
   none = λ ws f. none.1 ws (subst (FirstIs (TellsWords (codes "basis") ws)) none.0 f);
 }
@@ -75,8 +79,7 @@ takes_first ws needed a b c d e v u (line, cut, tells) more =
     let r = required_taken needed d e more in
     record {
       taken = v.passed ++ (u.passed ++ (line ∷ r.taken));
-      cut = v.cut ∙ ap (λ (l : List (List ℕ)). v.passed ++ l) (u.cut ∙ ap (λ (l : List (List ℕ)). u.passed ++ l) (cut ∙ ap (λ (l : List (List ℕ)). line ∷ l) r.cut))
-          ∙ regroup v.passed u.passed (line ∷ r.taken) e;
+      cut = pass_cut v (pass_cut u (cut ∙ ap (λ (l : List (List ℕ)). line ∷ l) r.cut)) ∙ regroup v.passed u.passed (line ∷ r.taken) e;
       lines = record {
         version = v.passed;
         union = u.passed;
@@ -109,8 +112,8 @@ pub stops_at_counts : (a b c d : List (List ℕ)) → Passes IsSimplesLine a b �
 stops_at_counts a b c d s g none = record {
   simples = s.passed;
   gap = g.passed;
-  cut = s.cut ∙ ap (λ (l : List (List ℕ)). s.passed ++ l) (g.cut ∙ ap (λ (l : List (List ℕ)). g.passed ++ l) (sym none.0));
-  is_simples = subst (IsPassed IsSimplesLine s.passed) (g.cut ∙ ap (λ (l : List (List ℕ)). g.passed ++ l) (sym none.0)) s.is;
+  cut = pass_cut s (pass_cut g (sym none.0));
+  is_simples = subst (IsPassed IsSimplesLine s.passed) (pass_cut g (sym none.0)) s.is;
   is_gap = subst (IsPassed IsGapLine g.passed) (sym none.0) g.is;
   none = λ x y f. let t = first_told x y d f in none.1 t.0 (subst (FirstIs (TellsTheseCounts t.0)) none.0 t.1);
 }
