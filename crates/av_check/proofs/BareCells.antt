@@ -18,7 +18,7 @@ use Rattle.av_embed.specs.Embed.{fibre}
 use Rattle.av_sys.specs.declared.names.Sign.{Sign}
 use Rattle.av_sys.specs.declared.names.Name.{Name}
 use Rattle.av_name.specs.Constraints.{free}
-use Rattle.av_split.specs.Split.{Demand, questions_of}
+use Rattle.av_split.specs.Split.{questions_of}
 use Rattle.av_split.specs.Boxes.{Question, Box, child_of, word_rules, ask, questions, demands}
 use Rattle.av_split.proofs.WordDemands.{In_ask, demands_each, demands_apt}
 use Rattle.av_split.proofs.WordSplit.{done_child_avoids, start_fine}
@@ -61,17 +61,8 @@ Short w = length w ≤ MAX_PATTERN_LENGTH
 
 module _ (π : List ℕ) (n : Name) (nss : List (List Name)) (w : IsWord π) (own : IsWordName n) (sized : Each (λ ns. length ns ≡ length π) nss) (words : Each (λ ns. Each IsWordName ns) nss)
     (short : IsShortName n) (shorts : Each (λ ns. Each IsShortName ns) nss) where
-  abbrev ds : List (Demand Question)
-  ds = demands π n.avoid n.require
-
-  abbrev ts : List (List (Literal Question))
-  ts = map (literals 0) nss
-
-  abbrev start : Box
-  start = replicate (length π) free
-
   -- the questions of the name have short words
-  own_short : Each (AptWith Short (length π)) (questions_of ds)
+  own_short : Each (AptWith Short (length π)) (questions_of (demands π n.avoid n.require))
   own_short q i = record {
     apt = demands_apt π n.avoid n.require own.avoids own.requires q i;
     word = demands_each (λ (x : Question). Short x.word) π n.avoid n.require asked q i;
@@ -98,8 +89,8 @@ module _ (π : List ℕ) (n : Name) (nss : List (List Name)) (w : IsWord π) (ow
     | inr k ↦ literals_short (suc i) ns (λ x p. h x (inr p)) l k
   ]
 
-  all_short : Each (AptWith Short (length π)) (questions_with ds ts)
-  all_short = all_questions (AptWith Short (length π)) ds nss own_short (λ ns j l k. record {
+  all_short : Each (AptWith Short (length π)) (questions_with (demands π n.avoid n.require) (map (literals 0) nss))
+  all_short = all_questions (AptWith Short (length π)) (demands π n.avoid n.require) nss own_short (λ ns j l k. record {
     apt = literals_apt (length π) 0 ns (let e = sized ns j in omega arith) (words ns j) l k;
     word = literals_short 0 ns (shorts ns j) l k;
   })
@@ -107,7 +98,9 @@ module _ (π : List ℕ) (n : Name) (nss : List (List Name)) (w : IsWord π) (ow
   -- so have the constraints of each leaf
   leaf_short : (l : Leaf Box) → In l (leaves π n nss) → FineWith Short (length π) l.cell
   leaf_short l i =
-      (walk_leaf word_rules (FineWith Short (length π)) (AptWith Short (length π)) (words_law Short (length π)) ds ts all_short start (record { fine = start_fine (length π); words = start_words Short (length π) }) l i).fine
+      (walk_leaf word_rules (FineWith Short (length π)) (AptWith Short (length π)) (words_law Short (length π))
+      (demands π n.avoid n.require) (map (literals 0) nss) all_short (replicate (length π) free)
+      (record { fine = start_fine (length π); words = start_words Short (length π) }) l i).fine
 
   -- the canonical system of the name of each child of a bare leaf can be grown over a basis that the name covers
   pub bare_growable : (basis : List (List ℕ)) (first : Sign) (l : Leaf Box) → Covers basis n.avoid → In l (leaves π n nss) → l.ending ≡ bare → Each (IsGrowable basis) (child_names first l.cell)
