@@ -29,7 +29,7 @@ use Rattle.av_check.specs.declared.fault.Fault.TheVariants as faults
 use Rattle.av_check.specs.declared.verdict.Flaw.{Flaw}
 use Rattle.av_check.specs.declared.verdict.Verdict.TheVariants as verdicts
 use Rattle.av_check.specs.Verdicts.{first_of, first_some, some_if, is_misnamed, is_wrong_name, count_points, points_due, first_sign, roots_for, wrong_root, leaf_flaw, ending_flaw, cell_fault, first_leaf, root_fault, root_found, name_fault, point_fault, node_fault, cells_fault, equation_fault, verdict_or, verdict_from}
-use Rattle.av_check.proofs.GoodWalk.{IsAmid, walk_fits}
+use Rattle.av_check.proofs.GoodWalk.{walk_fits}
 use Rattle.av_check.proofs.WordTelling.{IsLong, start_long, long_law, box_term, Marks, word_tell}
 use Rattle.av_check.proofs.VerdictParts.{IsFaultless}
 use Rattle.av_check.proofs.TidyNames.{IsTidyName, draft_tidy, tidy_named, or_false}
@@ -49,16 +49,17 @@ box_leaves root n first keep ga gr l i =
     let ds : List (Demand Question) = demands root n.avoid n.require in
     let start : Box = replicate (length root) free in
     let ts : List (List (Literal Question)) = map (box_term first) (filter keep bs) in
-    let amid : IsAmid word_rules (IsLong (length root)) (Apt (length root)) (long_law (length root)) ds (demands_apt root n.avoid n.require ga gr) (box_term first) Marks (word_tell (length root) first) keep bs start = record {
+    (walk_fits word_rules (IsLong (length root)) (Apt (length root)) (long_law (length root)) ds (demands_apt root n.avoid n.require ga gr)
+    (box_term first) Marks (word_tell (length root) first) keep bs (walk_questions ds ts) start l (start_long (length root))
+    (record {
       before = [];
       after = [];
       is = sym (append-nil (filter keep bs));
       listed = λ x k. k;
       before_out = λ x k. absurd k;
       after_out = λ x k. absurd k;
-    } in
-    (walk_fits word_rules (IsLong (length root)) (Apt (length root)) (long_law (length root)) ds (demands_apt root n.avoid n.require ga gr) (box_term first) Marks (word_tell (length root) first) keep bs
-    (walk_questions ds ts) start l (start_long (length root)) amid (subst (λ x. In l (walk word_rules ds x start)) (terms_of_boxes first (filter keep bs)) i)).ending
+    })
+    (subst (λ x. In l (walk word_rules ds x start)) (terms_of_boxes first (filter keep bs)) i)).ending
 
 -- where all are kept each leaf is good
 keep_all : (bs : List Box) → filter (λ (b : Box). true) bs ≡ bs
