@@ -1,8 +1,7 @@
 -- The loop over the leaves of a root: the first flaw, and the numbers of the cells.
-use Rattle.std.proofs.Common.{◌≡◌, Result, Ok, ℕ, suc, ◌+◌, ◌-◌, ◌^◌, ◌≤◌, inl, inr, List, [], ◌∷◌, length, slice_get, All, min, cond, le-leb, Option, Some, None, refl, sym, ap, ◌∙◌, subst, arith}
+use Rattle.std.proofs.Common.{◌≡◌, ℕ, suc, ◌+◌, ◌-◌, ◌^◌, ◌≤◌, inl, inr, List, [], ◌∷◌, length, slice_get, All, min, cond, le-leb, Option, Some, None, refl, sym, ap, ◌∙◌, subst, arith}
 use Rattle.std.proofs.lemmas.Bool.{cases_lt, cases_eq, lt-leb}
 use Rattle.std.proofs.lemmas.List.{length-map}
-use Rattle.av_perm.specs.declared.words.Memory.{Memory}
 use Rattle.av_perm.specs.Members.{In}
 use Rattle.av_perm.specs.Relations.{IsWord}
 use Rattle.av_perm.proofs.Membership.{Each, In_map, all_each}
@@ -23,7 +22,7 @@ use Rattle.av_walk.specs.declared.leaves.CellEnd.{CellEnd}
 use Rattle.av_walk.specs.declared.leaves.CellEnd.TheVariants as cells
 use Rattle.av_walk.specs.Walk.{bare, Leaf}
 use Rattle.av_walk.specs.Leaves.{name_of_equation, names_at, names_of_root, leaves_of}
-use Rattle.av_walk.specs.Ends.{IsEndOf, GivesEnd}
+use Rattle.av_walk.specs.Ends.{IsEndOf}
 use Rattle.av_check.specs.declared.fault.Fault.TheVariants as faults
 use Rattle.av_check.specs.declared.verdict.Flaw.{Flaw}
 use Rattle.av_check.specs.Verdicts.{first_sign, ending_flaw, leaf_flaw, at_most, first_of, cell_fault, first_leaf}
@@ -33,10 +32,6 @@ use Rattle.av_check.specs.Outcomes.{IsGrowable}
 use Rattle.av_check.specs.Ends.{end_flaw, IsGrowableEnd, IsLeft}
 use Rattle.av_check.proofs.BareCells.{bare_growable}
 use Rattle.av_check.proofs.ListedTerms.{In_names}
-
--- an end that is given is that of the first leaf of those left
-pub given_leaf : (r : Result CellEnd Memory) (end : CellEnd) (before after : List (Leaf Box)) → r ≡ Ok end → GivesEnd (Some r) before after → (l : Leaf Box) × IsEndOf end l × (before ≡ l ∷ after)
-given_leaf r end before after e = subst (λ r. GivesEnd (Some r) before after) e
 
 -- the flaw of a leaf by its end
 pub end_same : (simples : List (List ℕ)) (root : List ℕ) (end : CellEnd) (l : Leaf Box) → IsEndOf end l → end_flaw simples root end ≡ leaf_flaw MAX_SIZE simples root l
