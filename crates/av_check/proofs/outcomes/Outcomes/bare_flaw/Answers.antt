@@ -1,36 +1,34 @@
 -- The next name.
 use Rattle.std.proofs.Common.{◌≡◌, ℕ, List, [], ◌∷◌, length, refl, sym, ◌∙◌, arith}
-use Rattle.av_build.specs.Drafts.{child_names}
 use Rattle.av_check.proofs.NameLoops.{going_first, going_growable, going_dead, going_large, going_alive, going_last}
 use Rattle.av_check.proofs.outcomes.Outcomes.bare_flaw.Goals as goal
 
 pub loop-constraint-init : goal.loop-constraint-init
 loop-constraint-init c = record {
-  going = going_first c.args.basis.now c.args.simples.now (child_names c.args.first c.args.cell) c.args.first c.into_iter-constraint-iterator.result.rest.items c.args.cell
+  going = going_first _ _ _ _ _ c.args.cell
       (c.into_iter-constraint-iterator.ensures.into_iter_gives.0 ∙ c.into_items-constraint-items.ensures) refl c.requires.names;
   known = c.requires.known;
 }
 
 pub find-requires-clause-name : goal.find-requires-clause-name
 find-requires-clause-name c =
-    going_growable c.args.basis.now c.args.simples.now (child_names c.args.first c.args.cell) c.loop-constraint.sign c.loop-constraint.flaw c.in-Some.constraint c.loop-constraint.constraint-iterator.rest.items c.next.new.self.rest.items
-    (c.in-Some.ensures.steps).0 c.loop-constraint.invariant.going
+    going_growable _ _ _ _ _ c.in-Some.constraint _ c.next.new.self.rest.items (c.in-Some.ensures.steps).0 c.loop-constraint.invariant.going
 
 pub returns-in-Dead-clause-flaw : goal.returns-in-Dead-clause-flaw
 returns-in-Dead-clause-flaw c =
-    going_dead c.args.basis.now c.args.simples.now (child_names c.args.first c.args.cell) c.loop-constraint.sign c.loop-constraint.flaw c.in-Some.constraint c.loop-constraint.constraint-iterator.rest.items c.next.new.self.rest.items
+    going_dead _ _ _ _ _ c.in-Some.constraint _ c.next.new.self.rest.items
     (c.in-Some.ensures.steps).0 c.loop-constraint.invariant.going c.in_ok-find.field-0 c.in_ok-find.ensures.found c.in-Dead.is
 
 pub loop-constraint-preserved-in-TooLarge : goal.loop-constraint-preserved-in-TooLarge
 loop-constraint-preserved-in-TooLarge c = record {
-  going = going_large c.args.basis.now c.args.simples.now (child_names c.args.first c.args.cell) c.loop-constraint.sign c.loop-constraint.flaw c.in-Some.constraint c.loop-constraint.constraint-iterator.rest.items c.next.new.self.rest.items
+  going = going_large _ _ _ _ _ c.in-Some.constraint _ c.next.new.self.rest.items
       (c.in-Some.ensures.steps).0 c.loop-constraint.invariant.going c.in_ok-find.field-0 c.in_ok-find.ensures.found c.in-TooLarge.is;
   known = c.in_ok-find.ensures.known;
 }
 
 pub loop-constraint-preserved : goal.loop-constraint-preserved
 loop-constraint-preserved c = record {
-  going = going_alive c.args.basis.now c.args.simples.now (child_names c.args.first c.args.cell) c.loop-constraint.sign c.loop-constraint.flaw c.in-Some.constraint c.loop-constraint.constraint-iterator.rest.items c.next.new.self.rest.items
+  going = going_alive _ _ _ _ _ c.in-Some.constraint _ c.next.new.self.rest.items
       (c.in-Some.ensures.steps).0 c.loop-constraint.invariant.going c.in_ok-find.field-0 c.in_ok-find.ensures.found c.in-Alive.is;
   known = c.in_ok-find.ensures.known;
 }
@@ -42,6 +40,6 @@ nothing_left (x ∷ xs) n e z = absurd (omega (arith, e, z))
 
 pub returns-clause-flaw : goal.returns-clause-flaw
 returns-clause-flaw c =
-    going_last c.args.basis.now c.args.simples.now (child_names c.args.first c.args.cell) c.loop-constraint.sign c.loop-constraint.flaw c.loop-constraint.constraint-iterator.rest.items
-    (nothing_left c.loop-constraint.constraint-iterator.rest.items c.loop-constraint.constraint-iterator.rest.len (sym (c.loop-constraint.constraint-iterator.rest.ok).0) (c.in-None.ensures.steps).0)
+    going_last _ _ _ _ _ _
+    (nothing_left _ c.loop-constraint.constraint-iterator.rest.len (sym (c.loop-constraint.constraint-iterator.rest.ok).0) (c.in-None.ensures.steps).0)
     c.loop-constraint.invariant.going
