@@ -1,6 +1,7 @@
 -- Where the verdict is yes the system is exact, and each equation generates what its name describes.
 use Rattle.std.proofs.Common.{◌≡◌, ℕ, zero, suc, ◌+◌, List, [], ◌∷◌, length, slice_get, Bool, true, false, cond, nat_eq, eqb-true, Option, Some, None, refl, sym, ap, ◌∙◌, subst, arith, true≢false}
 use Rattle.std.proofs.lemmas.Bool.{and_parts}
+use Rattle.std.proofs.lemmas.List.{nil_from_length}
 use Rattle.av_perm.proofs.ListLaws.{get_In, get_within}
 use Rattle.av_sys.specs.declared.names.Name.{Name}
 use Rattle.av_sys.specs.declared.terms.Term.{Term}
@@ -29,11 +30,7 @@ bare_parts : (first : Name) (es : List Equation) → is_bare first es ≡ true �
 bare_parts first [] h = absurd (true≢false (sym h))
 bare_parts first (e ∷ []) h =
     let p = and_parts (same_name e.name first) (nat_eq (length e.terms) 0) h in
-    (e, refl, name_equal e.name first p.0, empty e.terms p.1)
-  where
-    empty : (ts : List Term) → nat_eq (length ts) 0 ≡ true → ts ≡ []
-    empty [] q = refl
-    empty (t ∷ ts) q = let e = eqb-true (length (t ∷ ts)) 0 q in absurd (omega arith)
+    (e, refl, name_equal e.name first p.0, nil_from_length e.terms (eqb-true (length e.terms) 0 p.1))
 bare_parts first (e ∷ d ∷ es) h = absurd (true≢false (sym h))
 
 module _ (S : System) (e : Equation) (one : S.equations ≡ e ∷ []) (bare : e.terms ≡ []) (void : (w : List ℕ) → Means e.name w → ⊥) where

@@ -1,5 +1,6 @@
 -- The number of the next child.
 use Rattle.std.proofs.Common.{◌≡◌, ℕ, List, [], ◌∷◌, length, refl, sym, ap, ◌∙◌, subst, arith}
+use Rattle.std.proofs.lemmas.List.{nil_from_length}
 use Rattle.av_sys.specs.declared.names.Sign.{Sign}
 use Rattle.av_sys.specs.declared.names.Constraint.{Constraint}
 use Rattle.av_sys.specs.declared.names.Name.{Name}
@@ -43,14 +44,10 @@ loop-constraint-preserved c =
       few = omega (arith, c.loop-constraint.invariant.few, more, rest, ap length c.in_ok-number.ensures.grows);
     }
 
--- a list without length is empty
-nothing_left : {A : Type 0} (xs : List A) (n : ℕ) → length xs ≡ n → n ≡ 0 → xs ≡ []
-nothing_left [] n e z = refl
-nothing_left (x ∷ xs) n e z = absurd (omega (arith, e, z))
-
 pub returns : goal.returns
 returns c =
-    let rest = nothing_left c.loop-constraint.constraint-iterator.rest.items c.loop-constraint.constraint-iterator.rest.len (sym (c.loop-constraint.constraint-iterator.rest.ok).0) (c.in-None.ensures.steps).0 in
+    let i = c.loop-constraint.constraint-iterator.rest in
+    let rest = nil_from_length i.items (sym (i.ok).0 ∙ (c.in-None.ensures.steps).0) in
     let numbered =
     all_numbered (child_names c.args.first c.args.constraints) (child_names c.loop-constraint.sign c.loop-constraint.constraint-iterator.rest.items)
     c.args.names.now c.loop-constraint.names c.loop-constraint.children (ap (child_names c.loop-constraint.sign) rest) c.loop-constraint.invariant.numbered in

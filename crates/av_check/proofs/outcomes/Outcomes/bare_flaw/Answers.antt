@@ -1,5 +1,6 @@
 -- The next name.
-use Rattle.std.proofs.Common.{◌≡◌, ℕ, List, [], ◌∷◌, length, refl, sym, ◌∙◌, arith}
+use Rattle.std.proofs.Common.{refl, sym, ◌∙◌}
+use Rattle.std.proofs.lemmas.List.{nil_from_length}
 use Rattle.av_check.proofs.NameLoops.{going_first, going_growable, going_dead, going_large, going_alive, going_last}
 use Rattle.av_check.proofs.outcomes.Outcomes.bare_flaw.Goals as goal
 
@@ -33,13 +34,7 @@ loop-constraint-preserved c = record {
   known = c.in_ok-find.ensures.known;
 }
 
--- a list without length is empty
-nothing_left : {A : Type 0} (xs : List A) (n : ℕ) → length xs ≡ n → n ≡ 0 → xs ≡ []
-nothing_left [] n e z = refl
-nothing_left (x ∷ xs) n e z = absurd (omega (arith, e, z))
-
 pub returns-clause-flaw : goal.returns-clause-flaw
 returns-clause-flaw c =
-    going_last _ _ _ _ _ _
-    (nothing_left _ c.loop-constraint.constraint-iterator.rest.len (sym (c.loop-constraint.constraint-iterator.rest.ok).0) (c.in-None.ensures.steps).0)
+    going_last _ _ _ _ _ _ (nil_from_length _ (sym (c.loop-constraint.constraint-iterator.rest.ok).0 ∙ (c.in-None.ensures.steps).0))
     c.loop-constraint.invariant.going
