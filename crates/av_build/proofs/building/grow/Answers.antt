@@ -6,11 +6,10 @@ use Rattle.av_perm.proofs.ListLaws.{get_In}
 use Rattle.av_perm.proofs.PermWords.{perms_words}
 use Rattle.av_perm.specs.Word.{ArePerms}
 use Rattle.av_sys.specs.declared.names.Name.{Name}
-use Rattle.av_sys.specs.declared.terms.Equation.{Equation}
 use Rattle.av_build.specs.Drafts.{drafts}
 use Rattle.av_build.specs.Adding.{HasTerms}
 use Rattle.av_build.proofs.ShortNames.{HasShortWords, IsShortOver}
-use Rattle.av_build.proofs.Growth.{HasGrown, grown_first, grown_short, grown_next, grown_too_large, grown_whole}
+use Rattle.av_build.proofs.Growth.{grown_first, grown_short, grown_next, grown_too_large, grown_whole}
 use Rattle.av_build.proofs.building.grow.Goals as goal
 
 -- the copy of the name with a number is the name that the numbering has there
@@ -24,12 +23,6 @@ pub push_terms-requires-clause-sized : goal.push_terms-requires-clause-sized
 push_terms-requires-clause-sized c k d h =
     let r = c.requires.roots _ (In_at c.args.roots.now k d h) in
     (omega (arith, r.0.long), r.1)
-
--- the words of a name that was found are no longer than those of the first
-found_short : (roots : List (List ℕ)) (name : Name) (limit : ℕ) (names : List Name) (equations : List Equation) (terms i : ℕ) (read copy : Name) → IsShortOver [] MAX_PATTERN_LENGTH name
-    → HasGrown roots name limit names equations terms → slice_get names i ≡ Some read → copy ≡ read → HasShortWords MAX_PATTERN_LENGTH copy
-found_short roots name limit names equations terms i read copy short h g e =
-    grown_short roots name limit names equations terms h [] MAX_PATTERN_LENGTH short copy (subst (λ n. In n names) (sym e) (get_In names i read g))
 
 -- a name of such words of at most so many entries, the required ones of two or more
 short_name : (name : Name) → ArePerms name.avoid → ArePerms name.require → All (λ w. 2 ≤ length w) name.require
@@ -47,17 +40,19 @@ short_name name avoid require long short_avoid short_require = record {
   };
 }
 
+-- the words of the name that was found are no longer than those of the first
+found_short : (c : goal.After-terms-1) → HasShortWords MAX_PATTERN_LENGTH c.in_ok-name.name
+found_short c =
+    grown_short c.args.roots.now c.args.name.now c.args.limit c.equations.names c.equations.equations c.equations.written
+    c.equations.invariant [] MAX_PATTERN_LENGTH
+    (short_name c.args.name.now c.len-avoid.ensures.words c.len-require.ensures.words c.requires.long c.requires.avoid c.requires.require)
+    c.in_ok-name.name (subst (λ n. In n c.equations.names) (sym c.in_ok-name.ensures) (get_In c.equations.names _ c.get.result.now c.get.ensures))
+
 pub push_terms-requires-clause-avoid : goal.push_terms-requires-clause-avoid
-push_terms-requires-clause-avoid c =
-    each_all (λ w. length w ≤ MAX_PATTERN_LENGTH) c.in_ok-name.name.avoid
-    (found_short c.args.roots.now c.args.name.now c.args.limit c.equations.names c.equations.equations c.equations.written _ c.get.result.now c.in_ok-name.name
-    (short_name c.args.name.now c.len-avoid.ensures.words c.len-require.ensures.words c.requires.long c.requires.avoid c.requires.require) c.equations.invariant c.get.ensures c.in_ok-name.ensures).avoid
+push_terms-requires-clause-avoid c = each_all (λ w. length w ≤ MAX_PATTERN_LENGTH) c.in_ok-name.name.avoid (found_short c).avoid
 
 pub push_terms-requires-clause-require : goal.push_terms-requires-clause-require
-push_terms-requires-clause-require c =
-    each_all (λ w. length w ≤ MAX_PATTERN_LENGTH) c.in_ok-name.name.require
-    (found_short c.args.roots.now c.args.name.now c.args.limit c.equations.names c.equations.equations c.equations.written _ c.get.result.now c.in_ok-name.name
-    (short_name c.args.name.now c.len-avoid.ensures.words c.len-require.ensures.words c.requires.long c.requires.avoid c.requires.require) c.equations.invariant c.get.ensures c.in_ok-name.ensures).require
+push_terms-requires-clause-require c = each_all (λ w. length w ≤ MAX_PATTERN_LENGTH) c.in_ok-name.name.require (found_short c).require
 
 pub returns-then-not-branch : goal.returns-then-not-branch
 returns-then-not-branch c =
