@@ -2,10 +2,6 @@
 use Rattle.std.proofs.Common.{◌≡◌, ℕ, List, [], ◌∷◌, drop, sym, ap, subst, ◌∙◌}
 use Rattle.av_check.specs.Reading.{FirstIs, Passes}
 
--- after no lines there are none
-pub none_after : (ls : List (List ℕ)) → ls ≡ [] → ls ≡ drop 1 ls
-none_after ls e = e ∙ sym (ap (drop 1) e)
-
 -- what is known of the next line
 pub next_is : (P : List ℕ → Type 0) (ls : List (List ℕ)) (l : List ℕ) (rest : List (List ℕ)) → ls ≡ l ∷ rest → P l → FirstIs P ls
 next_is P ls l rest e p = subst (FirstIs P) (sym e) p

@@ -27,7 +27,7 @@ pub use joined::Joined;
 pub use members::RankedWord;
 pub use numbers::{Number, put_number};
 pub use queries::put_query;
-pub use systems::put_system;
+pub use systems::{put_system, terms_count};
 pub use text::Text;
 pub use trees::put_tree;
 pub use words::{put_word, put_words};

@@ -180,8 +180,8 @@ impl Text for Counts {
     }
 }
 
-// The number of all terms of the equations.
-fn terms_count(equations: &Equations) -> u128
+/// The number of all terms of the equations.
+pub fn terms_count(equations: &Equations) -> u128
     ensures { result ≡ terms_count equations.now }
 {
     let mut count: u128 = 0;

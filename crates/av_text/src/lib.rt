@@ -61,7 +61,7 @@ pub use limits::{
     DEFAULT_FORMAT, DEFAULT_LISTED, MAX_DEMO, MAX_DISTRIBUTION_LENGTH, MAX_DRAWN, MAX_FORMAT,
     MAX_LISTED, MAX_PATTERNS, MAX_SCRIPT_BYTES, MAX_STATISTIC_LENGTH,
 };
-pub use lines::first_line;
+pub use lines::{Lines, count_lines};
 pub use numerals::number_in;
 pub use queries::{DistKind, Form, Query};
 pub use script::{Queries, Script, ScriptError, read_script};

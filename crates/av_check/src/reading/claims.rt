@@ -11,12 +11,13 @@ use crate::claim::Claim;
 use crate::limits::MAX_CLAIM_BYTES;
 use crate::reading::announced::{Counts, counts_of};
 use crate::reading::equations::equation_of;
-use crate::reading::lines::{Lines, count_lines};
+use crate::reading::lines::{is_next, pass_known, pass_over};
 use crate::reading::pieces::{cut_at, is};
 use crate::reading::words::words_of;
 use av_perm::{Memory, Words};
+use av_print::terms_count;
 use av_sys::{Equation, Equations, System};
-use av_text::{Kind, MAX_PATTERNS};
+use av_text::{Kind, Lines, MAX_PATTERNS, count_lines};
 use std::alloc::Global;
 
 /// Why a claim isn't read.
@@ -164,8 +165,8 @@ struct Front {
 fn told_front(alloc: Global, lines: &mut Lines) -> Result<Front, Stop>
     ensures { ReadsFirst lines.old lines.new result }
 {
-    lines.pass_known(b"permspec 1");
-    lines.pass_over(b"union ");
+    pass_known(lines, b"permspec 1");
+    pass_over(lines, b"union ");
     let Some(basis) = words_line(alloc, lines, b"basis")? else {
         return Err(Stop::Here);
     };
@@ -177,30 +178,19 @@ fn told_front(alloc: Global, lines: &mut Lines) -> Result<Front, Stop>
 fn told_counts(alloc: Global, lines: &mut Lines) -> Result<Counts, Stop>
     ensures { ReadsCounts lines.old lines.new result }
 {
-    lines.pass_over(b"simples ");
-    lines.pass_over(b"gap ");
+    pass_over(lines, b"simples ");
+    pass_over(lines, b"gap ");
     match counts_line(alloc, lines)? {
         Some(counts) => Ok(counts),
         None => Err(Stop::Here),
     }
 }
 
-/// The number of all terms of the equations.
-fn terms_count(equations: &Equations) -> u128
-    ensures { result ≡ terms_count equations.now }
-{
-    let mut count: u128 = 0;
-    for equation in equations.as_slice() {
-        count += equation.terms.len() as u128;
-    }
-    count
-}
-
 /// Whether the next line ends a claim whose equations have so many terms.
 fn is_at_end(lines: &Lines, equations: &Equations, terms: u32) -> bool
     ensures { IsTrue result ↔ ((terms ≡ terms_count equations.now) × FirstIs (λ line. line ≡ codes "end") lines.now) }
 {
-    terms_count(equations) == terms as u128 && lines.is_next(b"end")
+    terms_count(equations) == terms as u128 && is_next(lines, b"end")
 }
 
 /// The system of a claim, whose line `end` comes next.
