@@ -1,5 +1,5 @@
 -- What the two additions make of a constraint.
-use Rattle.std.proofs.Common.{◌≡◌, ℕ, ◌≤◌, inl, inr, ◌↔◌, List, ◌∷◌, length, Bool, true, false, ◌||◌, refl, sym, ap, ◌∙◌, subst, arith}
+use Rattle.std.proofs.Common.{◌≡◌, ℕ, ◌≤◌, inl, inr, ◌↔◌, List, ◌∷◌, length, Bool, true, ◌||◌, refl, sym, ap, ◌∙◌, subst, arith}
 use Rattle.std.proofs.lemmas.Bool.{or_cases, or_left, or_right}
 use Rattle.av_perm.specs.Members.{In}
 use Rattle.av_perm.specs.Contain.{contains}
@@ -52,9 +52,7 @@ required_top c p g o =
 
 -- two tests of which each passes where the other does
 same_tests : (a b : Bool) → (a ≡ true → b ≡ true) → (b ≡ true → a ≡ true) → a ≡ b
-same_tests true b f g = sym (f refl)
-same_tests false true f g = g refl
-same_tests false false f g = refl
+same_tests a b f g = grind arith
 
 -- what is avoided once the pattern is: what contains it, and what was avoided
 avoided_more : (c : Constraint) (p w : List ℕ) → Each IsWord c.avoid → IsWord p → is_avoided (add_avoid c p) w ≡ (contains w p || is_avoided c w)
@@ -96,12 +94,7 @@ unfolding known_of
 known_of_avoid c p w f g = ap (known_by (is_required c w)) (avoided_more c p w f g) ∙ by (is_required c w) (is_avoided c w) (contains w p)
   where
     by : (x y b : Bool) → known_by x (b || y) ≡ once_avoided b (known_by x y)
-    by true y true = refl
-    by true y false = refl
-    by false true true = refl
-    by false true false = refl
-    by false false true = refl
-    by false false false = refl
+    by x y b = grind arith
 
 -- what is known of a word once the pattern is required, if nothing was known of the pattern
 pub known_of_require : (c : Constraint) (p w : List ℕ) → Each IsWord c.require → IsWord p → known_of c p ≡ Open
@@ -113,12 +106,7 @@ known_of_require c p w f g o =
     let h = avoided_from c w e in (open_is c p o).1 (h.0, h.1, contains_trans p w h.0 (contains_from p w k) h.2))
   where
     by : (x y b : Bool) → (y ≡ true → b ≡ true → ⊥) → known_by (b || x) y ≡ once_required b (known_by x y)
-    by true y true n = refl
-    by true y false n = refl
-    by false true true n = absurd (n refl refl)
-    by false true false n = refl
-    by false false true n = refl
-    by false false false n = refl
+    by x y b n = grind arith
 
 -- avoiding the pattern keeps a constraint fit
 pub avoid_fit : (c : Constraint) (p : List ℕ) → IsFit c → IsWord p → IsFit (add_avoid c p)
