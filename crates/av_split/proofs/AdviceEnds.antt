@@ -16,10 +16,6 @@ use Rattle.av_split.specs.Gathering.{question_asked, word_question, Told, Gather
 use Rattle.av_split.proofs.AdviceWalks.{told_start}
 
 module _ (b : Box) (π : List ℕ) (A R : List (List ℕ)) where
-  -- a broken avoided word
-  pub first_broken : IsBroken b None (map (demand π false) A) → demands_known (word_rules.known b) (demands π A R) ≡ Outside
-  first_broken h = h (demands π A R) (map (demand π true) R) (told_start b (demands π A R))
-
   -- the avoided words gone through
   half : (mid : Option Question) → Gathers b None (map (demand π false) A) mid [] → Told b mid (demands π A R) (map (demand π true) R ++ [])
   half mid h = subst (Told b mid (demands π A R)) (sym (append-nil (map (demand π true) R)))

@@ -1,5 +1,5 @@
 -- What is known of the items of a list, gone through from the front.
-use Rattle.std.proofs.Common.{◌≡◌, ◌↔◌, ℕ, ◌+◌, ◌<◌, ◌≤◌, List, [], ◌∷◌, length, get_or, take, zero, suc, inl, inr, drop, Option, Some, None, Bool, true, false, refl, ap, ap₂, sym, ◌∙◌, subst, drop-cons, add-one, arith}
+use Rattle.std.proofs.Common.{◌≡◌, ◌↔◌, ℕ, ◌+◌, ◌<◌, ◌≤◌, List, [], ◌∷◌, length, get_or, take, zero, suc, inl, inr, drop, Option, Some, None, refl, ap, ap₂, sym, ◌∙◌, subst, drop-cons, add-one, arith}
 use Rattle.av_perm.specs.Members.{In}
 use Rattle.av_perm.proofs.Membership.{In_at}
 use Rattle.av_name.specs.declared.constraints.Known.{Known}
@@ -9,9 +9,9 @@ use Rattle.av_split.specs.declared.steps.Step.{Step}
 use Rattle.av_split.specs.declared.steps.Step.TheVariants.{Holds, Fails, Asks}
 use Rattle.std.proofs.Math.ListN.{drop_of_length-le}
 use Rattle.std.proofs.lemmas.Bool.{cases_lt}
-use Rattle.av_split.specs.Split.{Demand, both, either, turned, all_of, some_of, at_open, first_open}
-use Rattle.av_split.proofs.KnownFacts.{both_inside, both_out, either_in}
-use Rattle.av_split.specs.Cells.{IsStep, IsFirst, known_so, or_first, or_else, step_or, turned_step}
+use Rattle.av_split.specs.Split.{Demand, both, either, all_of, some_of, at_open, first_open}
+use Rattle.av_split.proofs.KnownFacts.{both_inside}
+use Rattle.av_split.specs.Cells.{IsStep, IsFirst, known_so, or_else}
 
 -- what the items gone through tell together where one that holds suffices and none did, by the first open cell or question
 abbrev pub some_so : {X : Type 0} → Option X → Known
@@ -27,86 +27,6 @@ pub record AllSo {A X : Type 0} (f : A → Known) (g : A → Option X) (found : 
 pub record SomeSo {A X : Type 0} (f : A → Known) (g : A → Option X) (found : Option X) (xs rest : List A) : Type 0 where
   pub known : some_of f xs ≡ either (some_so found) (some_of f rest)
   pub first : first_open f g xs ≡ or_else found (first_open f g rest)
-
--- at the start nothing was found
-pub all_start : {A X : Type 0} (f : A → Known) (g : A → Option X) (xs : List A) → AllSo f g None xs xs
-all_start f g xs = record { known = refl; first = refl }
-
-pub some_start : {A X : Type 0} (f : A → Known) (g : A → Option X) (xs : List A) → SomeSo f g None xs xs
-some_start f g xs = record { known = refl; first = refl }
-
--- an item that holds is passed over
-pub all_holds : {A X : Type 0} (f : A → Known) (g : A → Option X) (found : Option X) (xs rest : List A) (x : A) → f x ≡ Inside
-    → AllSo f g found xs (x ∷ rest) → AllSo f g found xs rest
-all_holds f g found xs rest x e s = record {
-  known = s.known ∙ ap (λ k. both (known_so found) (both k (all_of f rest))) e;
-  first = s.first ∙ ap (λ k. or_else found (at_open k (g x) (first_open f g rest))) e;
-}
-
--- an item that fails decides
-pub all_fails : {A X : Type 0} (f : A → Known) (g : A → Option X) (found : Option X) (xs rest : List A) (x : A) → f x ≡ Outside
-    → AllSo f g found xs (x ∷ rest) → all_of f xs ≡ Outside
-all_fails f g found xs rest x e s = s.known ∙ ap (λ k. both (known_so found) (both k (all_of f rest))) e ∙ both_out (known_so found)
-
--- the first open one is kept
-pub all_asks : {A X : Type 0} (f : A → Known) (g : A → Option X) (found : Option X) (xs rest : List A) (x : A) (c : X) → f x ≡ Open → g x ≡ Some c
-    → AllSo f g found xs (x ∷ rest) → AllSo f g (or_first found c) xs rest
-all_asks {X = X} f g found xs rest x c e q s = record {
-  known = s.known ∙ ap (λ k. both (known_so found) (both k (all_of f rest))) e ∙ by found (all_of f rest);
-  first = s.first ∙ ap₂ (λ k o. or_else found (at_open k o (first_open f g rest))) e q ∙ or found;
-}
-  where
-    by : (found : Option X) (k : Known) → both (known_so found) (both Open k) ≡ both (known_so (or_first found c)) k
-    by found k = grind arith
-
-    or : (found : Option X) → or_else found (Some c) ≡ or_else (or_first found c) (first_open f g rest)
-    or found = grind arith
-
--- at the end
-pub all_end : {A : Type 0} (f : A → Known) (g : A → Option Cell) (found : Option Cell) (xs : List A) → AllSo f g found xs []
-    → IsStep (step_or found Holds) (all_of f xs) (first_open f g xs)
-all_end f g None xs s = s.known
-all_end f g (Some cell) xs s = (s.known, s.first)
-
--- an item that fails is passed over
-pub some_fails : {A X : Type 0} (f : A → Known) (g : A → Option X) (found : Option X) (xs rest : List A) (x : A) → f x ≡ Outside
-    → SomeSo f g found xs (x ∷ rest) → SomeSo f g found xs rest
-some_fails f g found xs rest x e s = record {
-  known = s.known ∙ ap (λ k. either (some_so found) (either k (some_of f rest))) e;
-  first = s.first ∙ ap (λ k. or_else found (at_open k (g x) (first_open f g rest))) e;
-}
-
--- an item that holds decides
-pub some_holds : {A X : Type 0} (f : A → Known) (g : A → Option X) (found : Option X) (xs rest : List A) (x : A) → f x ≡ Inside
-    → SomeSo f g found xs (x ∷ rest) → some_of f xs ≡ Inside
-some_holds f g found xs rest x e s = s.known ∙ ap (λ k. either (some_so found) (either k (some_of f rest))) e ∙ either_in (some_so found)
-
--- the first open one is kept
-pub some_asks : {A X : Type 0} (f : A → Known) (g : A → Option X) (found : Option X) (xs rest : List A) (x : A) (c : X) → f x ≡ Open → g x ≡ Some c
-    → SomeSo f g found xs (x ∷ rest) → SomeSo f g (or_first found c) xs rest
-some_asks {X = X} f g found xs rest x c e q s = record {
-  known = s.known ∙ ap (λ k. either (some_so found) (either k (some_of f rest))) e ∙ by found (some_of f rest);
-  first = s.first ∙ ap₂ (λ k o. or_else found (at_open k o (first_open f g rest))) e q ∙ or found;
-}
-  where
-    by : (found : Option X) (k : Known) → either (some_so found) (either Open k) ≡ either (some_so (or_first found c)) k
-    by found k = grind arith
-
-    or : (found : Option X) → or_else found (Some c) ≡ or_else (or_first found c) (first_open f g rest)
-    or found = grind arith
-
--- at the end
-pub some_end : {A : Type 0} (f : A → Known) (g : A → Option Cell) (found : Option Cell) (xs : List A) → SomeSo f g found xs []
-    → IsStep (step_or found Fails) (some_of f xs) (first_open f g xs)
-some_end f g None xs s = s.known
-some_end f g (Some cell) xs s = (s.known, s.first)
-
--- the opposite step
-pub turned_is : (required : Bool) (step : Step) (k : Known) (o : Option Cell) → IsStep step k o → IsStep (turned_step required step) (turned required k) o
-turned_is true step k o s = s
-turned_is false Holds k o s = ap (turned false) s
-turned_is false Fails k o s = ap (turned false) s
-turned_is false (Asks cell) k o s = (ap (turned false) s.0, s.1)
 
 -- the rest at an index, by its first item
 pub rest_at : {A : Type 0} (xs : List A) (i n : ℕ) (x d : A) → i < length xs → get_or xs i d ≡ x → n ≡ i + 1 → drop i xs ≡ x ∷ drop n xs
