@@ -1,5 +1,5 @@
 -- The terms gone through, from the front.
-use Rattle.std.proofs.Common.{◌≡◌, ℕ, ◌+◌, ◌<◌, ◌≤◌, min, List, [], ◌∷◌, ◌++◌, take, length, get_or, All, Option, Some, None, refl, sym, ap, ap₂, ◌∙◌, subst, arith, append_assoc, append-nil, add-one}
+use Rattle.std.proofs.Common.{◌≡◌, ℕ, ◌+◌, ◌<◌, ◌≤◌, min, List, [], ◌∷◌, ◌++◌, take, length, get_or, All, Option, Some, None, refl, sym, ap, ap₂, ◌∙◌, subst, arith, append_assoc, add-one}
 use Rattle.std.proofs.Math.Seq.{take-suc}
 use Rattle.std.proofs.lemmas.List.{map-append}
 use Rattle.std.proofs.lemmas.List.Elements.{All-nil, All-cons, All-append}
@@ -11,7 +11,7 @@ use Rattle.av_split.specs.Split.{at_open, first_open}
 use Rattle.av_split.specs.Cells.{IsStep, or_first, or_else}
 use Rattle.av_walk.specs.declared.sifting.Sifted.{Sifted}
 use Rattle.av_walk.specs.Walk.{Literal, literal_known, term_known, one_more, inside_count, next_of_terms}
-use Rattle.av_walk.specs.Sifts.{literal_cell, picked, AreAlive, IsSifted, IsMore}
+use Rattle.av_walk.specs.Sifts.{literal_cell, picked, AreAlive, IsMore}
 use Rattle.av_walk.proofs.Living.{alive_all, alive_without}
 
 -- the terms before the rest told no more than what was found
@@ -80,19 +80,6 @@ module _ (F : Cell → Known) (ts : List (List (Literal Cell))) (numbers : List 
       first : (o : Option Cell) → or_else o (Some cell) ≡ or_else (or_first o cell) (next_of_terms F (picked ts rest))
       first None = refl
       first (Some c) = refl
-
-  -- at the end
-  pub sift_end : (s : Sifted) → Sifts F ts numbers s [] → IsSifted F ts numbers s
-  sift_end s h = record {
-    inside = let a = h.inside in let b = h.small in omega arith;
-    next = sym (h.next ∙ none s.next);
-    live = subst (AreAlive (term_known F) (picked ts numbers)) (append-nil (picked ts s.live.items)) h.live;
-    within = h.within;
-  }
-    where
-      none : (o : Option Cell) → or_else o None ≡ o
-      none None = refl
-      none (Some c) = refl
 
 -- one more number of all
 pub all_next : (ts : List (List (Literal Cell))) (i n : ℕ) (old new : List ℕ) → i < length ts → n ≡ i + 1 → new ≡ old ++ i ∷ [] → picked ts old ≡ take i ts → picked ts new ≡ take n ts

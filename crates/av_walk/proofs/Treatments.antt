@@ -1,5 +1,5 @@
 -- What becomes of a box, by cells and by questions: the same where what is known is.
-use Rattle.std.proofs.Common.{◌≡◌, ℕ, zero, suc, List, [], ◌∷◌, Option, Some, None, refl, sym, ap, ap₂, subst}
+use Rattle.std.proofs.Common.{◌≡◌, ℕ, zero, suc, List, [], ◌∷◌, Option, Some, refl, sym, ap, ap₂, subst, arith}
 use Rattle.av_name.specs.declared.constraints.Known.{Known}
 use Rattle.av_name.specs.declared.constraints.Known.TheVariants.{Inside, Outside, Open}
 use Rattle.av_split.specs.declared.cells.Cell.{Cell}
@@ -25,28 +25,16 @@ TreatmentOf k ps stuck (splits q) = ⊥
 
 module _ (k : ℕ) (ps : List (List ℕ)) where
   broken_same : (n : ℕ) (o : Option Cell) (p : Option Question) → OptionOf (IsQuestionOf k ps) o p → TreatmentOf k ps (broken_cell n o) (broken_cell n p)
-  broken_same zero None None i = refl
-  broken_same zero (Some cell) (Some q) i = i
-  broken_same zero None (Some q) i = absurd i
-  broken_same zero (Some cell) None i = absurd i
+  broken_same zero o p i = grind arith
   broken_same (suc n) o p i = refl
 
   done_same : (n : ℕ) (o : Option Cell) (p : Option Question) → OptionOf (IsQuestionOf k ps) o p → TreatmentOf k ps (done_cell n o) (done_cell n p)
-  done_same zero None None i = refl
-  done_same zero (Some cell) (Some q) i = i
-  done_same zero None (Some q) i = absurd i
-  done_same zero (Some cell) None i = absurd i
-  done_same (suc zero) None None i = refl
-  done_same (suc zero) (Some cell) (Some q) i = i
-  done_same (suc zero) None (Some q) i = absurd i
-  done_same (suc zero) (Some cell) None i = absurd i
+  done_same zero o p i = grind arith
+  done_same (suc zero) o p i = grind arith
   done_same (suc (suc n)) o p i = refl
 
   open_same : (o : Option Cell) (p : Option Question) → OptionOf (IsQuestionOf k ps) o p → TreatmentOf k ps (open_cell o) (open_cell p)
-  open_same None None i = tt
-  open_same (Some cell) (Some q) i = i
-  open_same None (Some q) i = absurd i
-  open_same (Some cell) None i = absurd i
+  open_same o p i = grind arith
 
   treated_same : (known : Known) (n : ℕ) (o o' : Option Cell) (p p' : Option Question) → OptionOf (IsQuestionOf k ps) o p → OptionOf (IsQuestionOf k ps) o' p' → TreatmentOf k ps (treated known n o o') (treated known n p p')
   treated_same Outside n o o' p p' i j = broken_same n o p i
