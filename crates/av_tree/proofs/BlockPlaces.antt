@@ -10,6 +10,7 @@ use Rattle.av_decomp.proofs.Decompositions.{block_shorter}
 use Rattle.av_sys.specs.declared.terms.Term.TheVariants.{Node}
 use Rattle.av_sys.specs.declared.terms.System.{System}
 use Rattle.av_sys.specs.Terms.{term_at}
+use Rattle.av_count.specs.declared.count.Count.{Count}
 use Rattle.av_count.specs.declared.count.Count.TheVariants.{Over}
 use Rattle.av_sys.specs.TreeLists.{members_at, count_at}
 use Rattle.av_tree.specs.declared.choosing.Pick.{Pick}
@@ -83,7 +84,7 @@ found_top S u w o x αs root cs m e f q =
     subst (NodeTop S w root cs) (sym f)
     (node_top S u w x.term x.blocks.items root cs (MatchOption-at_some (HasNoTop S u w) (λ (top : Top). IsTop S u w top.term top.blocks.items) x e m) q)
 
-module _ (S : System) (w root cs : List ℕ) (αs : List (List ℕ)) (top : NodeTop S w root cs αs) (long : length root ≡ length cs) where
+module _ {S : System} {w root cs : List ℕ} {αs : List (List ℕ)} (top : NodeTop S w root cs αs) (long : length root ≡ length cs) where
   -- it has as many blocks as the term has children
   pub top_count : length αs ≡ length cs
   top_count = top.inflation.blocks.count ∙ long
@@ -99,13 +100,17 @@ module _ (S : System) (w root cs : List ℕ) (αs : List (List ℕ)) (top : Node
       omega (arith, top_count, top_lengths)
 
   -- all blocks found, they make choices for the word's length
-  pub top_picks : (fs : List Found) → length cs ≤ length fs → FoundUpTo S cs αs fs (length cs) → HasPicks S cs αs (length w) fs
-  top_picks fs le f =
-      subst (λ k. HasPicks S cs αs k fs) top_lengths (has_picks S cs αs fs top_count le f (λ j k. top.inflation.blocks.filled j (omega (arith, long))))
+  pub top_picks : (fs : List Found) (i n : ℕ) → i ≡ length cs → length cs ≤ length fs → FoundUpTo S cs αs fs i → n ≡ length w
+      → HasPicks S cs αs n fs
+  top_picks fs i n e le f l =
+      subst (λ k. HasPicks S cs αs k fs) (top_lengths ∙ sym l)
+      (has_picks S cs αs fs top_count le (subst (FoundUpTo S cs αs fs) e f) (λ j k. top.inflation.blocks.filled j (omega (arith, long))))
 
-  -- and the word is the one at these choices
-  pub top_word : (fs : List Found) → (p : HasPicks S cs αs (length w) fs) → inflate root (picked (members_at S) cs p.picks) ≡ w
-  top_word fs p = ap (inflate root) p.same ∙ top.inflation.value
+  -- and the word is ranked as the one at these choices
+  pub top_ranked : (u n : ℕ) {fs : List Found} (p : HasPicks S cs αs n fs) (count : Count) → n ≡ length w
+      → RankedAt S u n (inflate root (picked (members_at S) cs p.picks)) count → RankedAt S u (length w) w count
+  top_ranked u n p count l r =
+      subst (λ k. RankedAt S u k w count) l (subst (λ v. RankedAt S u n v count) (ap (inflate root) p.same ∙ top.inflation.value) r)
 
 -- what was found of a block
 pub found_here : (S : System) (cs : List ℕ) (αs : List (List ℕ)) (i c : ℕ) (α : List ℕ) (f : Found) → get_or cs i 0 ≡ c → block αs i ≡ α → f.size ≡ length α → RankedAt S c (length α) α f.rank

@@ -1,20 +1,19 @@
 -- A word that means a name has a top, and the places of its blocks make its place.
-use Rattle.std.proofs.Common.{◌≡◌, ◌<◌, ◌≤◌, ℕ, List, length, sym, ap, ◌∙◌, subst, arith, Some}
+use Rattle.std.proofs.Common.{◌<◌, ◌≤◌, ℕ, List, length, sym, ap, ◌∙◌, subst, arith, rules, Some}
 use Rattle.std.proofs.Math.ListN.{length-set}
-use Rattle.av_perm.specs.Relations.{inflate}
 use Rattle.av_perm.proofs.PermWords.{perm_word}
 use Rattle.av_decomp.proofs.Decompositions.{word_of_one}
-use Rattle.av_sys.specs.TreeLists.{count_at, members_at}
 use Rattle.av_count.proofs.Filled.{child_is}
 use Rattle.av_count.proofs.NodeForms.{node_form}
+use Rattle.av_tree.specs.declared.placing.Found.{Found}
 use Rattle.av_tree.specs.declared.tops.Top.{Top}
-use Rattle.av_tree.specs.Picks.{Fitting, RankedAt, picked}
+use Rattle.av_tree.specs.Picks.{RankedAt}
 use Rattle.av_tree.specs.Tops.{IsTop, HasNoTop}
 use Rattle.av_tree.proofs.Options.{match_some}
 use Rattle.av_tree.proofs.Meanings.{block_read, mean_here}
 use Rattle.av_tree.proofs.AvoidingBlocks.{means_avoids}
 use Rattle.av_tree.proofs.SomeTops.{named_less, some_top, some_point}
-use Rattle.av_tree.proofs.BlockPlaces.{FoundUpTo, found_more, found_top, found_here, top_count, top_shorter, top_picks, top_word}
+use Rattle.av_tree.proofs.BlockPlaces.{found_more, found_top, found_here, top_count, top_shorter, top_picks, top_ranked}
 use Rattle.av_tree.proofs.ranking.+place.Goals as goal
 
 pub point_place-requires-clause-point : goal.point_place-requires-clause-point
@@ -38,8 +37,9 @@ unwrap-top-requires t c =
     match_some c.find_top.result (HasNoTop c.args.system.now c.args.eq c.args.word.now) (λ (top : Top). IsTop c.args.system.now c.args.eq c.args.word.now top.term top.blocks.items)
     (some_top c.args.system.now c.args.word.now c.requires.formed c.requires.named c.args.eq c.requires.means two) c.find_top.ensures
 
-pub equation-requires : goal.equation-requires
-equation-requires t c =
+-- the node that the top names
+pub loop-i-init : goal.loop-i-init
+loop-i-init t c =
     let S = c.args.system.now in
     let w = c.args.word.now in
     let root = c.in-Node.root in
@@ -48,25 +48,20 @@ equation-requires t c =
     let e = c.term.ensures ∙ ap Some c.in-Node.is in
     let g = node_form S c.args.eq c.unwrap-top.result.term root cs c.requires.formed e in
     let n = found_top S c.args.eq w c.find_top.result c.unwrap-top.result αs root cs c.find_top.ensures c.unwrap-top.ensures c.as_slice-parts.ensures.value e in
-    let count = top_count S w root cs αs n g.long in
-    omega (arith, count, c.loop-i-test.true)
+    record { form = g; top = n; count = top_count n g.long; long = search rules; found = λ j h. absurd (omega arith) }
 
 pub place-rank-requires : goal.place-rank-requires
 place-rank-requires t c =
     let S = c.args.system.now in
     let w = c.args.word.now in
-    let root = c.in-Node.root in
     let cs = c.in-Node.children in
     let αs = c.as_slice-parts.result.now in
-    let e = c.term.ensures ∙ ap Some c.in-Node.is in
-    let g = node_form S c.args.eq c.unwrap-top.result.term root cs c.requires.formed e in
-    let n = found_top S c.args.eq w c.find_top.result c.unwrap-top.result αs root cs c.find_top.ensures c.unwrap-top.ensures c.as_slice-parts.ensures.value e in
-    let count = top_count S w root cs αs n g.long in
+    let h = c.loop-i.invariant in
     let i = c.loop-i.i in
-    let less : i < length cs = omega (arith, count, c.loop-i-test.true) in
+    let less : i < length cs = omega arith in
     let x = child_is cs i c.equation.result c.equation.ensures in
     let b = block_read αs i c.index-parts-i.result (omega arith) c.index-parts-i.is ∙ sym c.word-part.ensures in
-    let l = top_shorter S w root cs αs n g.long i g.two less in
+    let l = top_shorter h.top h.form.long i h.form.two less in
     let m = ap (λ (v : List ℕ). length v) b in (
       omega (arith, l, m, c.decreases),
       (
@@ -74,12 +69,12 @@ place-rank-requires t c =
         (
           c.requires.stands,
           (
-            subst (λ z. z < length S.equations) x (g.known i less),
+            subst (λ z. z < length S.equations) x (h.form.known i less),
             (
               omega (arith, l, m, c.requires.short),
               (
                 named_less S (length w) (length c.word-part.result.now) (omega (arith, l, m)) c.requires.named,
-                mean_here S cs αs i c.equation.result c.word-part.result.now x b (n.means i less),
+                mean_here S cs αs i c.equation.result c.word-part.result.now x b (h.top.means i less),
               ),
             ),
           ),
@@ -87,81 +82,35 @@ place-rank-requires t c =
       ),
     )
 
-pub offset_bounds-founds-i : goal.offset_bounds-founds-i
-offset_bounds-founds-i t c =
-    let S = c.args.system.now in
-    let w = c.args.word.now in
-    let root = c.in-Node.root in
-    let cs = c.in-Node.children in
-    let αs = c.as_slice-parts.result.now in
-    let e = c.term.ensures ∙ ap Some c.in-Node.is in
-    let g = node_form S c.args.eq c.unwrap-top.result.term root cs c.requires.formed e in
-    let n = found_top S c.args.eq w c.find_top.result c.unwrap-top.result αs root cs c.find_top.ensures c.unwrap-top.ensures c.as_slice-parts.ensures.value e in
-    let count = top_count S w root cs αs n g.long in
-    omega (arith, g.few, count, c.loop-i-test.true)
-
-pub bounds-founds-i : goal.bounds-founds-i
-bounds-founds-i t c =
-    let S = c.args.system.now in
-    let w = c.args.word.now in
-    let root = c.in-Node.root in
-    let cs = c.in-Node.children in
-    let αs = c.as_slice-parts.result.now in
-    let e = c.term.ensures ∙ ap Some c.in-Node.is in
-    let g = node_form S c.args.eq c.unwrap-top.result.term root cs c.requires.formed e in
-    let n = found_top S c.args.eq w c.find_top.result c.unwrap-top.result αs root cs c.find_top.ensures c.unwrap-top.ensures c.as_slice-parts.ensures.value e in
-    let count = top_count S w root cs αs n g.long in
-    omega (arith, g.few, count, c.loop-i-test.true)
-
 pub loop-i-preserved : goal.loop-i-preserved
 loop-i-preserved t c =
     let S = c.args.system.now in
-    let w = c.args.word.now in
-    let root = c.in-Node.root in
     let cs = c.in-Node.children in
     let αs = c.as_slice-parts.result.now in
-    let e = c.term.ensures ∙ ap Some c.in-Node.is in
-    let g = node_form S c.args.eq c.unwrap-top.result.term root cs c.requires.formed e in
-    let n = found_top S c.args.eq w c.find_top.result c.unwrap-top.result αs root cs c.find_top.ensures c.unwrap-top.ensures c.as_slice-parts.ensures.value e in
-    let count = top_count S w root cs αs n g.long in
+    let h = c.loop-i.invariant in
     let i = c.loop-i.i in
     let x = child_is cs i c.equation.result c.equation.ensures in
     let b = block_read αs i c.index-parts-i.result (omega arith) c.index-parts-i.is ∙ sym c.word-part.ensures in
-    let h = found_here S cs αs i c.equation.result c.word-part.result.now (record { size = c.len-in-loop-i.result; rank = c.place-rank.result }) x b c.len-in-loop-i.ensures.value c.place-rank.ensures in
+    let f : Found = record { size = c.len-in-loop-i.result; rank = c.place-rank.result } in
+    let here = found_here S cs αs i c.equation.result c.word-part.result.now f x b c.len-in-loop-i.ensures.value c.place-rank.ensures in
     record {
-      long = length-set c.loop-i.founds i (record { size = c.len-in-loop-i.result; rank = c.place-rank.result }) ∙ c.loop-i.invariant.long;
-      found = found_more S cs αs c.loop-i.founds i (record { size = c.len-in-loop-i.result; rank = c.place-rank.result })
-          (omega (arith, count, c.loop-i.invariant.long, g.few, c.loop-i-test.true)) c.loop-i.invariant.found h;
+      form = h.form;
+      top = h.top;
+      count = h.count;
+      long = length-set c.loop-i.founds i f ∙ h.long;
+      found = found_more S cs αs c.loop-i.founds i f (omega arith) h.found here;
     }
 
 pub node_place-requires-clause-fits : goal.node_place-requires-clause-fits
 node_place-requires-clause-fits t c =
-    let S = c.args.system.now in
-    let w = c.args.word.now in
-    let root = c.in-Node.root in
-    let cs = c.in-Node.children in
-    let αs = c.as_slice-parts.result.now in
-    let e = c.term.ensures ∙ ap Some c.in-Node.is in
-    let g = node_form S c.args.eq c.unwrap-top.result.term root cs c.requires.formed e in
-    let n = found_top S c.args.eq w c.find_top.result c.unwrap-top.result αs root cs c.find_top.ensures c.unwrap-top.ensures c.as_slice-parts.ensures.value e in
-    let count = top_count S w root cs αs n g.long in
-    let q : c.loop-i.i ≡ length cs = omega (arith, count, c.loop-i-test.false, c.loop-i.auto.i-end) in
-    let p = top_picks S w root cs αs n g.long c.loop-i.founds (omega (arith, c.loop-i.invariant.long, g.few)) (subst (FoundUpTo S cs αs c.loop-i.founds) q c.loop-i.invariant.found) in
-    (p.picks, subst (λ m. Fitting (count_at S) cs m p.picks) (sym c.len-in-Node.ensures.value) p.fits, p.alike)
+    let h = c.loop-i.invariant in
+    let l = c.len-in-Node.ensures.value in
+    let p = top_picks h.top h.form.long c.loop-i.founds c.loop-i.i c.len-in-Node.result (omega arith) (omega arith) h.found l in
+    (p.picks, p.fits, p.alike)
 
 pub returns-after-loop-i : goal.returns-after-loop-i
 returns-after-loop-i t c =
-    let S = c.args.system.now in
-    let w = c.args.word.now in
-    let root = c.in-Node.root in
-    let cs = c.in-Node.children in
-    let αs = c.as_slice-parts.result.now in
-    let e = c.term.ensures ∙ ap Some c.in-Node.is in
-    let g = node_form S c.args.eq c.unwrap-top.result.term root cs c.requires.formed e in
-    let n = found_top S c.args.eq w c.find_top.result c.unwrap-top.result αs root cs c.find_top.ensures c.unwrap-top.ensures c.as_slice-parts.ensures.value e in
-    let count = top_count S w root cs αs n g.long in
-    let q : c.loop-i.i ≡ length cs = omega (arith, count, c.loop-i-test.false, c.loop-i.auto.i-end) in
-    let p = top_picks S w root cs αs n g.long c.loop-i.founds (omega (arith, c.loop-i.invariant.long, g.few)) (subst (FoundUpTo S cs αs c.loop-i.founds) q c.loop-i.invariant.found) in
-    let r = c.node_place.ensures p.picks (subst (λ m. Fitting (count_at S) cs m p.picks) (sym c.len-in-Node.ensures.value) p.fits) p.alike in
-    subst (λ v. RankedAt S c.args.eq (length w) v c.node_place.result) (top_word S w root cs αs n g.long c.loop-i.founds p)
-    (subst (λ m. RankedAt S c.args.eq m (inflate root (picked (members_at S) cs p.picks)) c.node_place.result) c.len-in-Node.ensures.value r)
+    let h = c.loop-i.invariant in
+    let l = c.len-in-Node.ensures.value in
+    let p = top_picks h.top h.form.long c.loop-i.founds c.loop-i.i c.len-in-Node.result (omega arith) (omega arith) h.found l in
+    top_ranked h.top h.form.long c.args.eq c.len-in-Node.result p c.node_place.result l (c.node_place.ensures p.picks p.fits p.alike)
