@@ -11,7 +11,6 @@ use Rattle.av_sys.specs.declared.terms.Term.TheVariants.{Node}
 use Rattle.av_sys.specs.declared.terms.System.{System}
 use Rattle.av_sys.specs.Terms.{term_at}
 use Rattle.av_count.specs.declared.count.Count.{Count}
-use Rattle.av_count.specs.declared.count.Count.TheVariants.{Over}
 use Rattle.av_sys.specs.TreeLists.{members_at, count_at}
 use Rattle.av_tree.specs.declared.choosing.Pick.{Pick}
 use Rattle.av_tree.specs.declared.placing.Found.{Found}
@@ -19,26 +18,23 @@ use Rattle.av_tree.specs.Founds.{Alike}
 use Rattle.av_tree.specs.Picks.{Fitting, RankedAt, picked}
 use Rattle.av_tree.specs.declared.tops.Top.{Top}
 use Rattle.av_tree.specs.Tops.{AllMean, FitsTerm, IsInflationOf, IsTop, HasNoTop}
+use Rattle.av_tree.proofs.PlacedPicks.{none}
 
 -- of a block: its length, and the count of its place among the words of an equation
 pub record FoundAt (S : System) (c : ℕ) (α : List ℕ) (f : Found) : Type 0 where
   pub sized : f.size ≡ length α
   pub ranked : RankedAt S c (length α) α f.rank
 
--- nothing found
-abbrev pub nothing : Found
-nothing = record { size = 0; rank = Over }
-
 -- so of the first i blocks
 abbrev pub FoundUpTo : System → List ℕ → List (List ℕ) → List Found → ℕ → Type 0
-FoundUpTo S cs αs fs i = (j : ℕ) → j < i → FoundAt S (get_or cs j 0) (block αs j) (get_or fs j nothing)
+FoundUpTo S cs αs fs i = (j : ℕ) → j < i → FoundAt S (get_or cs j 0) (block αs j) (get_or fs j none)
 
 -- one block more
 pub found_more : (S : System) (cs : List ℕ) (αs : List (List ℕ)) (fs : List Found) (i : ℕ) (f : Found) → i < length fs → FoundUpTo S cs αs fs i → FoundAt S (get_or cs i 0) (block αs i) f
     → FoundUpTo S cs αs (set fs i f) (i + 1)
 found_more S cs αs fs i f lt h here j l = elim (cases_eq j i) [
-  | inl e ↦ subst (λ k. FoundAt S (get_or cs k 0) (block αs k) (get_or (set fs i f) k nothing)) (sym e) (subst (FoundAt S (get_or cs i 0) (block αs i)) (sym (get_or-set_same fs i f nothing lt)) here)
-  | inr ne ↦ subst (FoundAt S (get_or cs j 0) (block αs j)) (sym (get_or-set_other fs i j f nothing ne)) (h j (omega (arith, ne)))
+  | inl e ↦ subst (λ k. FoundAt S (get_or cs k 0) (block αs k) (get_or (set fs i f) k none)) (sym e) (subst (FoundAt S (get_or cs i 0) (block αs i)) (sym (get_or-set_same fs i f none lt)) here)
+  | inr ne ↦ subst (FoundAt S (get_or cs j 0) (block αs j)) (sym (get_or-set_other fs i j f none ne)) (h j (omega (arith, ne)))
 ]
 
 -- choices that make the blocks

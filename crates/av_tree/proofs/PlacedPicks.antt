@@ -1,5 +1,5 @@
 -- The place of a choice among those of a node.
-use Rattle.std.proofs.Common.{◌≡◌, ◌≢◌, ℕ, zero, suc, ◌+◌, ◌*◌, ◌-◌, ◌/◌, ◌%◌, ◌<◌, ◌≤◌, List, [], ◌∷◌, length, drop, refl, sym, ◌∙◌, ap, subst, arith, get_or, ◌⊎◌, inl, inr}
+use Rattle.std.proofs.Common.{◌≡◌, ◌≢◌, ℕ, zero, suc, ◌+◌, ◌*◌, ◌-◌, ◌/◌, ◌%◌, ◌<◌, ◌≤◌, List, [], ◌∷◌, length, drop, refl, sym, ◌∙◌, ap, subst, arith, get_or, ◌⊎◌, inl, inr, slice_get, Some}
 use Rattle.std.proofs.lemmas.Nat.{div-mul-add, mod-mul-add}
 use Rattle.std.proofs.Math.Nat.{mul-le-mul_left, mul-le-mul_right}
 use Rattle.av_sys.specs.declared.terms.System.{System}
@@ -10,9 +10,10 @@ use Rattle.av_count.specs.Choices.{ways, ahead}
 use Rattle.av_sys.specs.TreeLists.{count_at}
 use Rattle.av_tree.specs.Picks.{Fitting, Chosen, Placed}
 use Rattle.av_count.specs.declared.count.Count.{Count}
+use Rattle.av_count.specs.declared.count.Count.TheVariants.{Known}
 use Rattle.av_count.specs.Counts.{capped}
 use Rattle.av_count.proofs.Members.{ahead_more, ways_cons}
-use Rattle.av_count.proofs.Filled.{same_or_not}
+use Rattle.av_count.proofs.Filled.{child_is, same_or_not}
 use Rattle.av_tree.proofs.Picks.{chosen_end, chosen_step, drop_past, drop_here}
 
 -- a place below a product is below no product with 0
@@ -100,25 +101,31 @@ here_front S c cs n f fs (k ∷ ps) h g =
       alike = g.2;
     }
 
+-- nothing found
+abbrev pub none : Found
+none = record { size = 0; rank = Known 0 }
+
 -- what was found of child i
-pub here_at : (S : System) (cs : List ℕ) (i c n : ℕ) (founds : List Found) (d : Found) (ps : List Pick) → i < length cs → i < length founds → get_or cs i 0 ≡ c
-    → Fitting (count_at S) (drop i cs) n ps → Alike (drop i founds) ps → Here S c (drop (i + 1) cs) n (get_or founds i d) (drop (i + 1) founds) ps
-here_at S cs i c n founds d ps lt lt2 e h g =
-    here_front S c (drop (i + 1) cs) n (get_or founds i d) (drop (i + 1) founds) ps
-    (subst (λ z. Fitting (count_at S) z n ps) (drop_here cs i 0 lt ∙ ap (λ z. z ∷ drop (i + 1) cs) e) h)
-    (subst (λ z. Alike z ps) (drop_here founds i d lt2) g)
+pub here_at : {S : System} (cs : List ℕ) {i c n : ℕ} (founds : List Found) → i < length cs → i < length founds → slice_get cs i ≡ Some c
+    → (f : (ps : List Pick) × Fitting (count_at S) (drop i cs) n ps × Alike (drop i founds) ps)
+    → Here S c (drop (i + 1) cs) n (get_or founds i none) (drop (i + 1) founds) f.0
+here_at {S} cs {i} {c} {n} founds lt lt2 e (ps, h, g) =
+    here_front S c (drop (i + 1) cs) n (get_or founds i none) (drop (i + 1) founds) ps
+    (subst (λ z. Fitting (count_at S) z n ps) (drop_here cs i 0 lt ∙ ap (λ z. z ∷ drop (i + 1) cs) (child_is cs i c e)) h)
+    (subst (λ z. Alike z ps) (drop_here founds i none lt2) g)
 
 -- the place of what was found of child i in front of the rest
-pub placed_found : (S : System) (cs : List ℕ) (i c n F x : ℕ) (f : Found) (fs : List Found) (ps : List Pick) (inner result : Count) → i < length cs → get_or cs i 0 ≡ c
-    → (h : Here S c (drop (i + 1) cs) n f fs ps)
+pub placed_found : (S : System) (cs : List ℕ) (i c n F x : ℕ) (f : Found) (fs : List Found) (ps : List Pick) (inner result : Count) → i < length cs
+    → slice_get cs i ≡ Some c → (h : Here S c (drop (i + 1) cs) n f fs ps)
     → (w : Placed S (drop (i + 1) cs) (n - f.size) (F * count_at S c f.size) (x * count_at S c f.size + h.own) h.later inner)
     → result ≡ capped (F * ahead (count_at S (get_or cs i 0)) (ways (count_at S) (drop (i + 1) cs)) n 1 (f.size - 1) + w.place)
     → Placed S (drop i cs) n F x ps result
 placed_found S cs i c n F x f fs ps inner result lt e h w is =
-    subst (λ z. Placed S z n F x ps result) (sym (drop_here cs i 0 lt ∙ ap (λ z. z ∷ drop (i + 1) cs) e))
+    let q = child_is cs i c e in
+    subst (λ z. Placed S z n F x ps result) (sym (drop_here cs i 0 lt ∙ ap (λ z. z ∷ drop (i + 1) cs) q))
     (subst (λ z. Placed S (c ∷ drop (i + 1) cs) n F x z result) (sym h.is)
     (placed_front S c (drop (i + 1) cs) n F x (record { size = f.size; rank = h.own }) h.later inner result h.least h.most h.below w
-    (subst (λ z. result ≡ capped (F * ahead (count_at S z) (ways (count_at S) (drop (i + 1) cs)) n 1 (f.size - 1) + w.place)) e is)))
+    (subst (λ z. result ≡ capped (F * ahead (count_at S z) (ways (count_at S) (drop (i + 1) cs)) n 1 (f.size - 1) + w.place)) q is)))
 
 -- with no child left, the place is that in front
 at_end : (S : System) (n F x : ℕ) (ps : List Pick) (q : Count) → q ≡ capped x → x < F → n ≡ 0 → Placed S [] n F x ps q
