@@ -1,5 +1,5 @@
 -- The lines of a script, read one after another.
-use Rattle.std.proofs.Common.{◌≡◌, ℕ, suc, ◌+◌, ◌<◌, ◌≤◌, false, List, [], ◌∷◌, ◌++◌, length, refl, sym, ap, ◌∙◌, Result, Ok, Err, Option, Some, None, append_assoc, append-nil, lt-ltb, is_some, option_to_list, add-one, true≢false}
+use Rattle.std.proofs.Common.{◌≡◌, ℕ, suc, ◌+◌, ◌<◌, ◌≤◌, false, List, [], ◌∷◌, ◌++◌, length, refl, sym, ap, ◌∙◌, Result, Ok, Err, Option, Some, None, append_assoc, append-nil, lt-ltb, is_some, option_to_list, add-one, true≢false, arith}
 use Rattle.std.proofs.lemmas.Bool.{le-ltb}
 use Rattle.std.specs.List.{filter_map}
 use Rattle.av_text.specs.declared.kind.Kind.TheVariants.{TooLong}
@@ -15,10 +15,10 @@ use Rattle.av_text.specs.declared.script.ScriptError.{ScriptError}
 use Rattle.av_text.specs.declared.script.ScriptError.TheVariants as error
 use Rattle.av_text.specs.Steps.{◌>>=◌}
 use Rattle.av_text.specs.Lines.{script_lines}
-use Rattle.av_text.specs.Read.{Fault, read, lines_said, line_said, at_line, basis_in, union_line, required_in, format_in, query_in, first_of, script_with}
+use Rattle.av_text.specs.Read.{Fault, after, read, lines_said, line_said, at_line, basis_in, union_line, required_in, format_in, query_in, first_of, script_with}
 use Rattle.av_text.specs.Heard.{unheard, noted, seen_of, script_said}
 use Rattle.av_text.specs.Results.{GivesScript}
-use Rattle.av_text.proofs.Kept.{line_kept, line_gave}
+use Rattle.av_text.proofs.Kept.{Keeps, line_kept, line_gave}
 
 -- the first of two union lines, where there is one
 abbrev pub line_or : Option UnionLine → Option UnionLine → Option UnionLine
@@ -47,67 +47,36 @@ pub read_short : (bs : List ℕ) → length bs ≤ MAX_SCRIPT_BYTES → read_on 
 unfolding read
 read_short bs h = rw (le-ltb MAX_SCRIPT_BYTES (length bs) h) refl
 
--- a line that is passed over changes nothing
-after_nothing : (n : ℕ) (heard : Heard) (r : Result (List Says) Fault) → script_after n heard (r >>= (λ more. Ok (Nothing ∷ more))) ≡ script_after (suc n) heard r
-after_nothing n heard (Ok more) = refl
-after_nothing n heard (Err fault) = refl
-
--- the basis line is noted
-after_basis : (n : ℕ) (heard : Heard) (ws : List (List ℕ)) (r : Result (List Says) Fault) → heard.basis ≡ None
-    → script_after n heard (r >>= (λ more. Ok (Basis ws ∷ more))) ≡ script_after (suc n) (noted n heard (Basis ws)) r
-after_basis n heard ws (Ok more) e = rw e refl
-after_basis n heard ws (Err fault) e = refl
-
--- the union line is noted
-after_union : (n : ℕ) (heard : Heard) (ws : List (List ℕ)) (r : Result (List Says) Fault) → heard.union_with ≡ None
-    → script_after n heard (r >>= (λ more. Ok (Unites ws ∷ more))) ≡ script_after (suc n) (noted n heard (Unites ws)) r
-after_union n heard ws (Ok more) e = rw e refl
-after_union n heard ws (Err fault) e = refl
-
--- the line of required words is noted
-after_required : (n : ℕ) (heard : Heard) (ws : List (List ℕ)) (r : Result (List Says) Fault) → heard.require ≡ None
-    → script_after n heard (r >>= (λ more. Ok (Requires ws ∷ more))) ≡ script_after (suc n) (noted n heard (Requires ws)) r
-after_required n heard ws (Ok more) e = rw e refl
-after_required n heard ws (Err fault) e = refl
-
--- the format line is noted
-after_format : (n : ℕ) (heard : Heard) (m : ℕ) (r : Result (List Says) Fault) → heard.format ≡ None
-    → script_after n heard (r >>= (λ more. Ok (Formats m ∷ more))) ≡ script_after (suc n) (noted n heard (Formats m)) r
-after_format n heard m (Ok more) e = rw e refl
-after_format n heard m (Err fault) e = refl
-
--- a query is noted
-after_query : (n : ℕ) (heard : Heard) (q : Query) (r : Result (List Says) Fault)
-    → script_after n heard (r >>= (λ more. Ok (Asks q ∷ more))) ≡ script_after (suc n) (noted n heard (Asks q)) r
-after_query n heard q (Ok more) =
-    ap (script_with (option_to_list heard.basis ++ filter_map basis_in more) (line_or heard.union_with (union_line (suc n) more)) (first_of (option_to_list heard.require ++ filter_map required_in more))
-    (first_of (option_to_list heard.format ++ filter_map format_in more)))
-    (sym (append_assoc heard.queries (q ∷ []) (filter_map query_in more)))
-after_query n heard q (Err fault) = refl
-
 -- what no line said before isn't there
 unsaid : {A : Type 0} (o : Option A) → is_some o ≡ false → o ≡ None
 unsaid None e = refl
 unsaid (Some a) e = absurd (true≢false e)
 
+-- a line is noted: one of a kind that may stand once is the first of its kind
+after_line : (n : ℕ) (heard : Heard) (said : Says) (r : Result (List Says) Fault) → Keeps (seen_of heard) said
+    → script_after n heard (r >>= (λ more. Ok (said ∷ more))) ≡ script_after (suc n) (noted n heard said) r
+after_line n heard said (Err fault) k = refl
+after_line n heard Nothing (Ok more) k = refl
+after_line n heard (Basis ws) (Ok more) k = rw (unsaid heard.basis k.0) refl
+after_line n heard (Unites ws) (Ok more) k = rw (unsaid heard.union_with k.0) refl
+after_line n heard (Requires ws) (Ok more) k = rw (unsaid heard.require k.0) refl
+after_line n heard (Formats m) (Ok more) k = rw (unsaid heard.format k.0) refl
+after_line n heard (Asks q) (Ok more) k =
+    ap (script_with (option_to_list heard.basis ++ filter_map basis_in more) (line_or heard.union_with (union_line (suc n) more))
+    (first_of (option_to_list heard.require ++ filter_map required_in more)) (first_of (option_to_list heard.format ++ filter_map format_in more)))
+    (sym (append_assoc heard.queries (q ∷ []) (filter_map query_in more)))
+
+-- what was seen once a line is noted
+seen_line : (n : ℕ) (heard : Heard) (said : Says) → after (seen_of heard) said ≡ seen_of (noted n heard said)
+seen_line n heard said = grind arith
+
 -- a line that isn't at fault: what it says is noted, and the script is that of the other lines
 read_line : (n : ℕ) (heard : Heard) (l : List ℕ) (ls : List (List ℕ)) (said : Says) → at_line n (line_said (seen_of heard) l) ≡ Ok said
     → read_on n heard (l ∷ ls) ≡ read_on (n + 1) (noted n heard said) ls
 unfolding lines_said
-read_line n heard l ls Nothing e = rw (e, add-one n) (after_nothing n heard (lines_said (suc n) (seen_of heard) ls))
-read_line n heard l ls (Basis ws) e =
-    let k = line_kept (seen_of heard) l (Basis ws) (line_gave n (line_said (seen_of heard) l) (Basis ws) e) in
-    rw (e, add-one n) (after_basis n heard ws (lines_said (suc n) (seen_of (noted n heard (Basis ws))) ls) (unsaid heard.basis k.0))
-read_line n heard l ls (Unites ws) e =
-    let k = line_kept (seen_of heard) l (Unites ws) (line_gave n (line_said (seen_of heard) l) (Unites ws) e) in
-    rw (e, add-one n) (after_union n heard ws (lines_said (suc n) (seen_of (noted n heard (Unites ws))) ls) (unsaid heard.union_with k.0))
-read_line n heard l ls (Requires ws) e =
-    let k = line_kept (seen_of heard) l (Requires ws) (line_gave n (line_said (seen_of heard) l) (Requires ws) e) in
-    rw (e, add-one n) (after_required n heard ws (lines_said (suc n) (seen_of (noted n heard (Requires ws))) ls) (unsaid heard.require k.0))
-read_line n heard l ls (Formats m) e =
-    let k = line_kept (seen_of heard) l (Formats m) (line_gave n (line_said (seen_of heard) l) (Formats m) e) in
-    rw (e, add-one n) (after_format n heard m (lines_said (suc n) (seen_of (noted n heard (Formats m))) ls) (unsaid heard.format k.0))
-read_line n heard l ls (Asks q) e = rw (e, add-one n) (after_query n heard q (lines_said (suc n) (seen_of heard) ls))
+read_line n heard l ls said e =
+    let k = line_kept (seen_of heard) l said (line_gave n (line_said (seen_of heard) l) said e) in
+    rw (e, add-one n, seen_line n heard said) (after_line n heard said (lines_said (suc n) (seen_of (noted n heard said)) ls) k)
 
 -- a line that is at fault
 read_fault : (n : ℕ) (heard : Heard) (l : List ℕ) (ls : List (List ℕ)) (fault : Fault) → at_line n (line_said (seen_of heard) l) ≡ Err fault
