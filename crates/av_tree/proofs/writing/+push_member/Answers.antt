@@ -31,44 +31,32 @@ choose-in_front-requires-clause-within t c =
     (1, one_known, within_here c.args.system.now c.args.table.now.system c.args.eq c.choose_term-cut.result.at c.args.size c.choose_term-cut.result.left c.in-Node.root c.in-Node.children c.requires.stands (c.term.ensures ∙ ap Some c.in-Node.is) c.choose_term-cut.ensures.left)
 
 pub loop-i-init : goal.loop-i-init
-loop-i-init t c = sym (append-nil c.args.out.now.items)
-
-pub bounds-picks-i : goal.bounds-picks-i
-bounds-picks-i t c =
-    let g = node_form c.args.system.now c.args.eq c.choose_term-cut.result.at c.in-Node.root c.in-Node.children c.requires.formed (c.term.ensures ∙ ap Some c.in-Node.is) in
-    omega (arith, g.few, c.loop-i-test.true, c.len-i-end.ensures)
-
-pub offset_bounds-picks-i : goal.offset_bounds-picks-i
-offset_bounds-picks-i t c =
-    let g = node_form c.args.system.now c.args.eq c.choose_term-cut.result.at c.in-Node.root c.in-Node.children c.requires.formed (c.term.ensures ∙ ap Some c.in-Node.is) in
-    omega (arith, g.few, c.loop-i-test.true, c.len-i-end.ensures)
-
-pub raise_of-requires-clause-i : goal.raise_of-requires-clause-i
-raise_of-requires-clause-i t c =
-    let g = node_form c.args.system.now c.args.eq c.choose_term-cut.result.at c.in-Node.root c.in-Node.children c.requires.formed (c.term.ensures ∙ ap Some c.in-Node.is) in
-    omega (arith, g.long, c.loop-i-test.true, c.len-i-end.ensures)
-
-pub raise_of-requires-clause-few : goal.raise_of-requires-clause-few
-raise_of-requires-clause-few t c =
-    let g = node_form c.args.system.now c.args.eq c.choose_term-cut.result.at c.in-Node.root c.in-Node.children c.requires.formed (c.term.ensures ∙ ap Some c.in-Node.is) in
-    omega (arith, g.long, g.few)
+loop-i-init t c =
+    let S = c.args.system.now in
+    let cs = c.in-Node.children in
+    let root = c.in-Node.root in
+    let ps = c.choose-in_front.new.picks in
+    let n = c.args.size in
+    let e = c.term.ensures ∙ ap Some c.in-Node.is in
+    let ch = chosen_here S c.args.table.now.system c.args.eq c.choose_term-cut.result.at n c.choose_term-cut.result.left c.choose-in_front.result root cs ps c.requires.stands e c.choose_term-cut.ensures.left c.choose-in_front.ensures in
+    record {
+      form = node_form S c.args.eq c.choose_term-cut.result.at root cs c.requires.formed e;
+      fits = ch.fits;
+      entry = term_entry S c.requires.formed c.args.eq n c.choose_term-cut.result.at c.choose_term-cut.result.left c.args.r c.choose_term-cut.ensures.term c.choose_term-cut.ensures.left c.choose_term-cut.ensures.place
+          ∙ node_member S n c.choose_term-cut.result.left c.choose-in_front.result c.args.eq c.choose_term-cut.result.at root cs ps e c.choose_term-cut.ensures.left ch;
+      written = sym (append-nil c.args.out.now.items);
+    }
 
 pub raise_of-requires-clause-most : goal.raise_of-requires-clause-most
 raise_of-requires-clause-most t c =
-    let S = c.args.system.now in
-    let e = c.term.ensures ∙ ap Some c.in-Node.is in
-    let g = node_form S c.args.eq c.choose_term-cut.result.at c.in-Node.root c.in-Node.children c.requires.formed e in
-    let ch = chosen_here S c.args.table.now.system c.args.eq c.choose_term-cut.result.at c.args.size c.choose_term-cut.result.left c.choose-in_front.result c.in-Node.root c.in-Node.children c.choose-in_front.new.picks c.requires.stands e c.choose_term-cut.ensures.left c.choose-in_front.ensures in
-    let l = lower_upto S (get_or c.in-Node.root c.loop-i.i 0) c.in-Node.root c.in-Node.children c.args.size c.choose-in_front.new.picks g.long ch.fits in
+    let h = c.loop-i.invariant in
+    let l = lower_upto c.args.system.now (get_or c.in-Node.root c.loop-i.i 0) c.in-Node.root c.in-Node.children c.args.size c.choose-in_front.new.picks h.form.long h.fits in
     omega (arith, l, c.requires.raise)
 
 pub overflow_add-up : goal.overflow_add-up
 overflow_add-up t c =
-    let S = c.args.system.now in
-    let e = c.term.ensures ∙ ap Some c.in-Node.is in
-    let g = node_form S c.args.eq c.choose_term-cut.result.at c.in-Node.root c.in-Node.children c.requires.formed e in
-    let ch = chosen_here S c.args.table.now.system c.args.eq c.choose_term-cut.result.at c.args.size c.choose_term-cut.result.left c.choose-in_front.result c.in-Node.root c.in-Node.children c.choose-in_front.new.picks c.requires.stands e c.choose_term-cut.ensures.left c.choose-in_front.ensures in
-    let l = lower_upto S (get_or c.in-Node.root c.loop-i.i 0) c.in-Node.root c.in-Node.children c.args.size c.choose-in_front.new.picks g.long ch.fits in
+    let h = c.loop-i.invariant in
+    let l = lower_upto c.args.system.now (get_or c.in-Node.root c.loop-i.i 0) c.in-Node.root c.in-Node.children c.args.size c.choose-in_front.new.picks h.form.long h.fits in
     omega (arith, l, c.requires.raise, c.raise_of.ensures)
 
 pub push_member-requires : goal.push_member-requires
@@ -79,31 +67,25 @@ push_member-requires t c =
     let ps = c.choose-in_front.new.picks in
     let i = c.loop-i.i in
     let n = c.args.size in
-    let e = c.term.ensures ∙ ap Some c.in-Node.is in
-    let g = node_form S c.args.eq c.choose_term-cut.result.at root cs c.requires.formed e in
-    let ch = chosen_here S c.args.table.now.system c.args.eq c.choose_term-cut.result.at n c.choose_term-cut.result.left c.choose-in_front.result root cs ps c.requires.stands e c.choose_term-cut.ensures.left c.choose-in_front.ensures in
+    let h = c.loop-i.invariant in
     let less : i < length cs = omega (arith, c.loop-i-test.true, c.len-i-end.ensures) in
     let x = child_is cs i c.equation-child.result c.equation-child.ensures in
-    let known = (node_form S c.args.eq c.choose_term-cut.result.at root cs c.requires.formed e).known i less in
-    let f = fitting_at S cs n i ps none less ch.fits in
+    let f = fitting_at S cs n i ps none less h.fits in
     let rank = subst (λ z. (get_or c.choose-in_front.new.picks c.loop-i.i none).rank < count_at c.args.system.now z (get_or c.choose-in_front.new.picks c.loop-i.i none).size) x f.rank in
-    let small = fitting_less S cs n i ps none less g.two ch.fits in
-    let fits = lower_fits S (get_or root i 0) root cs n i ps none g.long less refl ch.fits in
+    let small = fitting_less S cs n i ps none less h.form.two h.fits in
+    let fits = lower_fits S (get_or root i 0) root cs n i ps none h.form.long less refl h.fits in
     let blocks = picked (members_at S) cs ps in
-    let lp = length_picked S cs n ps ch.fits in
-    let whole : length (inflate root blocks) ≡ n =
-    ap length (sym (term_entry S c.requires.formed c.args.eq n c.choose_term-cut.result.at c.choose_term-cut.result.left c.args.r c.choose_term-cut.ensures.term c.choose_term-cut.ensures.left c.choose_term-cut.ensures.place
-    ∙ node_member S n c.choose_term-cut.result.left c.choose-in_front.result c.args.eq c.choose_term-cut.result.at root cs ps e c.choose_term-cut.ensures.left ch))
-    ∙ (member_word S c.requires.formed c.args.eq n c.args.r c.requires.within).long in
-    let own : length (get_or blocks i []) ≡ (get_or ps i none).size = ap length (picked_at (members_at S) (count_at S) cs n i ps none less ch.fits) ∙ (member_word S c.requires.formed (get_or cs i 0) (get_or ps i none).size (get_or ps i none).rank f.rank).long in
-    let room = room_left c.args.raise i n root blocks c.loop-i.out.items c.args.out.now.items (omega (arith, less, lp)) (omega (arith, g.long, lp)) whole c.loop-i.invariant in (
+    let lp = length_picked S cs n ps h.fits in
+    let whole : length (inflate root blocks) ≡ n = ap length (sym h.entry) ∙ (member_word S c.requires.formed c.args.eq n c.args.r c.requires.within).long in
+    let own : length (get_or blocks i []) ≡ (get_or ps i none).size = ap length (picked_at (members_at S) (count_at S) cs n i ps none less h.fits) ∙ (member_word S c.requires.formed (get_or cs i 0) (get_or ps i none).size (get_or ps i none).rank f.rank).long in
+    let room = room_left c.args.raise i n root blocks c.loop-i.out.items c.args.out.now.items (omega (arith, less, lp)) (omega (arith, h.form.long, lp)) whole h.written in (
       omega (arith, small, c.decreases),
       (
         c.requires.formed,
         (
           c.requires.stands,
           (
-            subst (λ z. z < length c.args.system.now.equations) x known,
+            subst (λ z. z < length c.args.system.now.equations) x (h.form.known i less),
             (
               f.least,
               (
@@ -127,17 +109,19 @@ loop-i-preserved t c =
     let ps = c.choose-in_front.new.picks in
     let i = c.loop-i.i in
     let n = c.args.size in
-    let e = c.term.ensures ∙ ap Some c.in-Node.is in
-    let g = node_form S c.args.eq c.choose_term-cut.result.at root cs c.requires.formed e in
-    let ch = chosen_here S c.args.table.now.system c.args.eq c.choose_term-cut.result.at n c.choose_term-cut.result.left c.choose-in_front.result root cs ps c.requires.stands e c.choose_term-cut.ensures.left c.choose-in_front.ensures in
+    let h = c.loop-i.invariant in
     let less : i < length cs = omega (arith, c.loop-i-test.true, c.len-i-end.ensures) in
     let x = child_is cs i c.equation-child.result c.equation-child.ensures in
-    let lp = length_picked S cs n ps ch.fits in
-    lifted_more c.args.raise c.raise_of.result root (picked (members_at S) cs ps) i c.args.out.now.items c.loop-i.out.items c.push_member.new.out.items
-    (get_or (members_at S c.equation-child.result (get_or ps i none).size) (get_or ps i none).rank [])
-    c.loop-i.invariant c.push_member.ensures
-    (c.raise_of.ensures ∙ sym (lower_below S c.requires.formed (get_or root i 0) root cs n ps g.long ch.fits))
-    (sym (picked_at (members_at S) (count_at S) cs n i ps none less ch.fits ∙ ap (λ z. get_or (members_at S z (get_or ps i none).size) (get_or ps i none).rank []) x))
+    record {
+      form = h.form;
+      fits = h.fits;
+      entry = h.entry;
+      written = lifted_more c.args.raise c.raise_of.result root (picked (members_at S) cs ps) i c.args.out.now.items c.loop-i.out.items c.push_member.new.out.items
+          (get_or (members_at S c.equation-child.result (get_or ps i none).size) (get_or ps i none).rank [])
+          h.written c.push_member.ensures
+          (c.raise_of.ensures ∙ sym (lower_below S c.requires.formed (get_or root i 0) root cs n ps h.form.long h.fits))
+          (sym (picked_at (members_at S) (count_at S) cs n i ps none less h.fits ∙ ap (λ z. get_or (members_at S z (get_or ps i none).size) (get_or ps i none).rank []) x));
+    }
 
 pub returns-in-Point : goal.returns-in-Point
 returns-in-Point t c =
@@ -153,15 +137,7 @@ returns-in-Point t c =
 pub returns-after-loop-i : goal.returns-after-loop-i
 returns-after-loop-i t c =
     let S = c.args.system.now in
-    let cs = c.in-Node.children in
-    let root = c.in-Node.root in
-    let ps = c.choose-in_front.new.picks in
-    let n = c.args.size in
-    let e = c.term.ensures ∙ ap Some c.in-Node.is in
-    let g = node_form S c.args.eq c.choose_term-cut.result.at root cs c.requires.formed e in
-    let ch = chosen_here S c.args.table.now.system c.args.eq c.choose_term-cut.result.at n c.choose_term-cut.result.left c.choose-in_front.result root cs ps c.requires.stands e c.choose_term-cut.ensures.left c.choose-in_front.ensures in
-    let lp = length_picked S cs n ps ch.fits in
-    all_stand c.args.raise c.loop-i.i root (picked (members_at S) cs ps) c.loop-i.out.items c.args.out.now.items (omega (arith, g.long, c.loop-i-test.false, c.len-i-end.ensures, c.loop-i.auto.i-end)) c.loop-i.invariant
-    ∙ ap (λ z. c.args.out.now.items ++ map (λ x. x + c.args.raise) z)
-    (sym (term_entry S c.requires.formed c.args.eq n c.choose_term-cut.result.at c.choose_term-cut.result.left c.args.r c.choose_term-cut.ensures.term c.choose_term-cut.ensures.left c.choose_term-cut.ensures.place
-    ∙ node_member S n c.choose_term-cut.result.left c.choose-in_front.result c.args.eq c.choose_term-cut.result.at root cs ps e c.choose_term-cut.ensures.left ch))
+    let h = c.loop-i.invariant in
+    all_stand c.args.raise c.loop-i.i c.in-Node.root (picked (members_at S) c.in-Node.children c.choose-in_front.new.picks) c.loop-i.out.items c.args.out.now.items
+    (omega (arith, h.form.long, c.loop-i-test.false, c.len-i-end.ensures, c.loop-i.auto.i-end)) h.written
+    ∙ ap (λ z. c.args.out.now.items ++ map (λ x. x + c.args.raise) z) (sym h.entry)
