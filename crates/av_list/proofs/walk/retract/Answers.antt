@@ -1,5 +1,5 @@
 -- The last vertex gives way to its next one, or is taken back.
-use Rattle.std.proofs.Common.{◌++◌, ◌∷◌, arith, ap₂, subst, sym, ◌∙◌}
+use Rattle.std.proofs.Common.{◌≤◌, ◌++◌, ◌∷◌, arith, ap₂, subst, sym, ◌∙◌}
 use Rattle.av_list.specs.Vertices.{dues_below}
 use Rattle.av_list.specs.Remaining.{later, left}
 use Rattle.av_list.specs.Derivations.{Derives}
@@ -7,19 +7,17 @@ use Rattle.av_list.proofs.Rooms.{back_room}
 use Rattle.av_list.proofs.Placing.{retract_move, retract_back, vertex_upto}
 use Rattle.av_list.proofs.walk.retract.Goals as goal
 
-pub next_vertex-requires-clause-most : goal.next_vertex-requires-clause-most
-next_vertex-requires-clause-most c =
-    let u =
+-- the last vertex is no larger than the whole tree
+vertex_most : (c : goal.In-Some) → c.in-Some.vertex.size ≤ c.args.derivation.now.size
+vertex_most c =
     vertex_upto c.args.system.now c.requires.formed c.args.derivation.now.size c.requires.least c.requires.some c.in-Some.vertex
-    c.pop_vertex.new.self.placed c.loop-vertex.derivation.placed c.loop-vertex.derivation.due c.loop-vertex.invariant.derives c.in-Some.ensures.vertex.0 in
-    omega (arith, c.requires.most)
+    c.pop_vertex.new.self.placed c.loop-vertex.derivation.placed c.loop-vertex.derivation.due c.loop-vertex.invariant.derives c.in-Some.ensures.vertex.0
+
+pub next_vertex-requires-clause-most : goal.next_vertex-requires-clause-most
+next_vertex-requires-clause-most c = omega (arith, vertex_most c, c.requires.most)
 
 pub next_vertex-requires-clause-size : goal.next_vertex-requires-clause-size
-next_vertex-requires-clause-size c =
-    let u =
-    vertex_upto c.args.system.now c.requires.formed c.args.derivation.now.size c.requires.least c.requires.some c.in-Some.vertex
-    c.pop_vertex.new.self.placed c.loop-vertex.derivation.placed c.loop-vertex.derivation.due c.loop-vertex.invariant.derives c.in-Some.ensures.vertex.0 in
-    omega (arith, c.requires.limit)
+next_vertex-requires-clause-size c = omega (arith, vertex_most c, c.requires.limit)
 
 pub put-requires-clause-derives : goal.put-requires-clause-derives
 put-requires-clause-derives c =
