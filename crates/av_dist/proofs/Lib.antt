@@ -11,6 +11,7 @@ pub mod AddedMultiples
 pub mod SumProducts
 pub mod NodeWords
 pub mod MemberStatistics
+pub mod Numerals
 pub mod FewTrees
 pub mod FewWords
 pub mod TotalSteps
