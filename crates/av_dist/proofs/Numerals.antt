@@ -36,7 +36,8 @@ unfolding numeral
 numeral_tells base [] [] l d e q = refl
 numeral_tells base [] (y ∷ ys) l d e q = absurd (omega arith)
 numeral_tells base (x ∷ xs) [] l d e q = absurd (omega arith)
-numeral_tells base (x ∷ xs) (y ∷ ys) l d e q = ap₂ (λ z zs. z ∷ zs) first (numeral_tells base xs ys (omega arith) (rest_digits base x xs d) (rest_digits base y ys e) others)
+numeral_tells base (x ∷ xs) (y ∷ ys) l d e q =
+    ap₂ (λ z zs. z ∷ zs) first (numeral_tells base xs ys (omega arith) (rest_digits base x xs d) (rest_digits base y ys e) others)
   where
     others : numeral base xs ≡ numeral base ys
     others = elim (cases_lt (numeral base xs) (numeral base ys)) [
@@ -46,6 +47,7 @@ numeral_tells base (x ∷ xs) (y ∷ ys) l d e q = ap₂ (λ z zs. z ∷ zs) fir
         | inr least ↦ omega arith
       ]
     ]
+
     first : x ≡ y
     first = omega (arith, rw others at q)
 
